@@ -2,6 +2,8 @@
 ghost use mathlib.Core.Path.{_≡_};
 ghost use Rattle.refusal.specs.Refusals.{number, layer, place};
 
+pub mod limits;
+
 /// The part of the system that refuses.
 #[derive(Clone, Copy, Debug, PartialEq, Eq)]
 pub enum Layer {

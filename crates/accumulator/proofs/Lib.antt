@@ -1,0 +1,4 @@
+pub mod Ring
+pub mod Slots
+pub mod Cells
+pub mod Runs

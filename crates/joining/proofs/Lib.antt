@@ -1,0 +1,4 @@
+pub mod Joinings
+pub mod KindLaws
+pub mod Same
+pub mod Steps

@@ -1,0 +1,4 @@
+pub mod Deviation
+pub mod Every
+pub mod Kinds
+pub mod Laws
