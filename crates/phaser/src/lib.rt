@@ -3,6 +3,10 @@ ghost use Rattle.phaser.specs.Words.{mode-text, verb-text};
 ghost use Rattle.std.specs.declared.option.Option.the-variants.{Some};
 use std::fmt;
 
+pub mod call;
+pub mod table;
+pub mod view;
+
 /// What a member may do. A signaler signs passes, and a waiter observes them.
 #[derive(Clone, Copy, Debug, PartialEq, Eq)]
 pub enum Mode {
