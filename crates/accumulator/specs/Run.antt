@@ -1,5 +1,5 @@
 -- A list of calls made on an accumulator, and what makes two accumulators interchangeable. Assumes nothing.
-use Rattle.std.specs.Prelude.{◌≡◌, ◌⊎◌, List, [], ◌∷◌, Ok, Err, Result}
+use Rattle.std.specs.Prelude.{◌≡◌, List, [], ◌∷◌, Ok, Err, Result}
 use Rattle.refusal.specs.declared.Refusal.{Refusal}
 use Rattle.refusal.specs.Rules.{Verdict}
 use Rattle.accumulator.specs.declared.play.Call.{Call}
@@ -34,8 +34,3 @@ module _ {V : Type 0} where
     pub left_runs : left ≡ run neutral join m calls
     pub right_runs : right ≡ run neutral join n calls
     pub alike : m ≡ n → left ≡ right
-
-  -- where memory fails: the right one means what it meant, and so does the left one unless it had made the calls
-  pub record CutShort (neutral : V) (join : V → V → V) (m n : Meaning V) (calls : List (Call V)) (left right : Meaning V) : Type 0 where
-    pub left_done : (left ≡ m) ⊎ (left ≡ (run neutral join m calls).1)
-    pub right_kept : right ≡ n

