@@ -1,4 +1,7 @@
 //! Accumulators: what keeps the totals of the newest passes, in ways that are interchangeable.
+
+#![tactic(auto)]
+
 ghost use Rattle.std.specs.Prelude.{◌≡◌};
 ghost use Rattle.accumulator.specs.Meaning.{Meaning, Sound, Spare, added, total_of, moved_on};
 

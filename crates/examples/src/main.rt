@@ -1,4 +1,7 @@
 //! Runs the report over the example logs, one after another.
+
+#![tactic(auto)]
+
 use report::report;
 use std::fs;
 

@@ -1,4 +1,7 @@
 //! The rules of a board, and the law of the record over every history of its calls.
+
+#![tactic(auto)]
+
 ghost use Rattle.history.specs.Accounts.{AccountsOrderFree};
 ghost use Rattle.history.specs.Agreement.{RulesAgree};
 ghost use Rattle.history.specs.Law.{RecordIsLawful};

@@ -1,4 +1,7 @@
 //! Commutative monoids: values that are joined in any order, five kinds of them, and one fold.
+
+#![tactic(auto)]
+
 ghost use Rattle.std.specs.Prelude.{◌≡◌};
 
 pub mod fold;

@@ -1,4 +1,7 @@
 //! Reads a log from standard input and prints its steps, or why it is refused.
+
+#![tactic(auto)]
+
 use report::report;
 use shiftlog::form::MAX_LOG_LEN;
 use std::io::{Read, Write};

@@ -1,4 +1,7 @@
 //! The phaser's vocabulary: the modes of its members, and its seven calls.
+
+#![tactic(auto)]
+
 ghost use Rattle.phaser.specs.Words.{mode_text, verb_text};
 ghost use Rattle.std.specs.Prelude.{Some};
 

@@ -38,6 +38,6 @@ pub fn brings(caller: Mode, newcomer: Mode) -> bool
 
 /// Both tables are their rule, entry by entry.
 pub fn tables_stand()
-    ensures* calls { do ⌜ (← (⟦MAY⟧).entry) ≡ calls_by_modes ⌝ }
-    ensures* newcomers { do ⌜ (← (⟦BRINGS⟧).entry) ≡ modes_by_newcomers ⌝ }
+    ensures calls { MAY ≡ calls_by_modes }
+    ensures newcomers { BRINGS ≡ modes_by_newcomers }
 {}

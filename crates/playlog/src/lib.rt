@@ -1,4 +1,7 @@
 //! A log played on the board, on both accumulators, and compared.
+
+#![tactic(auto)]
+
 pub mod calls;
 pub mod log;
 pub mod outcome;

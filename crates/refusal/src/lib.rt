@@ -1,4 +1,7 @@
 //! Every refusal of the project: its number, its layer and its place.
+
+#![tactic(auto)]
+
 ghost use Rattle.std.specs.Prelude.{◌≡◌};
 ghost use Rattle.refusal.specs.Refusals.{number, layer, place};
 

@@ -1,4 +1,7 @@
 //! The text that `passlog` prints of a log.
+
+#![tactic(auto)]
+
 ghost use Rattle.std.specs.Prelude.{◌≡◌, map, IfOk, string_bytes};
 ghost use Rattle.shiftlog.specs.Record.{entry_of};
 ghost use Rattle.report.specs.Report.{listing_text, refusal_text, report_text};

@@ -1,4 +1,7 @@
 //! Worked examples over all layers, shown from the definitions.
+
+#![tactic(auto)]
+
 ghost use Rattle.worked.specs.Examples.{WorkedExamples};
 
 /// The worked examples hold.
