@@ -7,12 +7,12 @@ use crate::Joining;
 
 /// The laws of the joining of a list, for every kind.
 pub fn joining_laws<V: Joining>()
-    ensures { JoiningLaws neutral joined }
+    ensures { JoiningLaws V.neutral V.joined }
 {}
 
 /// Joins the cells `start`, `start + step`, `start + 2 * step` and so on, from the neutral value. A step of 0 counts as 1.
 pub fn join_every<V: Joining + Copy>(cells: &[V], start: usize, step: usize) -> V
-    ensures { result ≡ joining_of neutral joined (every start step cells.now) }
+    ensures { result ≡ joining_of V.neutral V.joined (every start step cells.now) }
 {
     let mut total = V::neutral();
     for i in (start..cells.len()).step_by(step.max(1)) {

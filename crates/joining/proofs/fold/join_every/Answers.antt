@@ -22,8 +22,8 @@ pub returns : goal.returns
 returns g c = ended g.V.Joining.joined c.args.cells.now c.args.step c.loop-i.total c.loop-i-test.false ∙ c.loop-i.invariant.0
 
 -- the way out after the last turn, where one more step would pass the end
-pub returns·2 : goal.returns·2
-returns·2 g c =
+pub returns-2 : goal.returns-2
+returns-2 g c =
     let past : length c.args.cells.now ≤ c.loop-i.i + c.max-i-step.result = omega arith in
     ended g.V.Joining.joined c.args.cells.now c.args.step c.join-total.result past
     ∙ turn g.V.Joining.joined c.args.cells.now c.args.step c.loop-i.invariant.1 c.loop-i-test.true c.index-cells-i.is c.join-total.ensures
