@@ -1,7 +1,7 @@
 -- Boards that accept the same calls let the same numbers enter, each as often. Assumes nothing.
 use Rattle.std.proofs.Common.{◌≡◌, ℕ, ◌+◌, ◌≤◌, Bool, true, false, cond, eqb, ◌≢◌, List, [], ◌∷◌, ◌++◌, map, fold, sym, refl, ap, ◌∙◌, ⊎_elim, arith}
 use Rattle.std.proofs.lemmas.Bool.{cases_eq, eq-eqb, ne_eqb}
-use Rattle.std.specs.List.{AllByRecursion as All}
+use Rattle.std.specs.List.{AllByRecursion}
 use Rattle.phaser.specs.declared.call.Action.{Action}
 use Rattle.history.specs.Histories.{Event, Event.accepted, Event.refused, Done.done, action_of, done_by, calls_by, entrant, entrants}
 use Rattle.history.specs.Law.{Once, SameCalls}
@@ -20,11 +20,11 @@ count_append : (k : ℕ) (xs ys : List ℕ) → count k (xs ++ ys) ≡ count k x
 count_append k [] ys = omega arith
 count_append k (x ∷ xs) ys = omega (arith, count_append k xs ys)
 
-none_counted : (k : ℕ) (ys : List ℕ) → All (λ y. k ≢ y) ys → count k ys ≡ 0
+none_counted : (k : ℕ) (ys : List ℕ) → AllByRecursion (λ y. k ≢ y) ys → count k ys ≡ 0
 none_counted k [] h = refl
 none_counted k (y ∷ ys) h = omega (arith, none_counted k ys h.1, ap one_if (ne_eqb y k (λ e. h.0 (sym e))))
 
-counted_none : (k : ℕ) (ys : List ℕ) → count k ys ≡ 0 → All (λ y. k ≢ y) ys
+counted_none : (k : ℕ) (ys : List ℕ) → count k ys ≡ 0 → AllByRecursion (λ y. k ≢ y) ys
 counted_none k [] h = tt
 counted_none k (y ∷ ys) h =
     (λ e. let one = ap one_if (eq-eqb y k (sym e)) in omega arith, counted_none k ys (omega arith))

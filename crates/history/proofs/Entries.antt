@@ -1,7 +1,7 @@
 -- Who enters, and when: no number enters twice, so the call that brings a number in is the only one. Assumes nothing.
 use Rattle.std.proofs.Common.{◌≡◌, ℕ, zero, suc, Bool, true, false, cond, ◌||◌, eqb, ◌⊎◌, List, [], ◌∷◌, ◌++◌, map, Some, sym, refl, ap, ◌∙◌, subst, inl, inr, ⊎_elim}
 use Rattle.std.proofs.lemmas.Bool.{cases_Bool, eq-eqb, eqb-true, or_cases, or_parts, false≢true}
-use Rattle.std.specs.List.{slice_get, AllByRecursion as All}
+use Rattle.std.specs.List.{slice_get, AllByRecursion}
 use Rattle.phaser.specs.declared.call.Action.{Action}
 use Rattle.phaser.specs.declared.call.Answer.{Answer}
 use Rattle.history.specs.Histories.{Event, Event.accepted, Event.refused, Done.done, action_of, done_by, calls_by, entrant, entrants}
@@ -21,15 +21,15 @@ has_append k (x ∷ xs) ys = ap (λ (b : Bool). eqb x k || b) (has_append k xs y
     regroup false b c = refl
 
 -- a number that the list has is none that it lacks
-pub all_has : (k : ℕ) (es : List ℕ) → All (λ y. k ≡ y → ⊥) es → has k es ≡ true → ⊥
+pub all_has : (k : ℕ) (es : List ℕ) → AllByRecursion (λ y. k ≡ y → ⊥) es → has k es ≡ true → ⊥
 all_has k [] a e = false≢true e
 all_has k (y ∷ es) a e = ⊎_elim (λ t. a.0 (sym (eqb-true y k t))) (λ t. all_has k es a.1 t) (or_cases (eqb y k) (has k es) e)
 
-pub all_front : (k : ℕ) (es fs : List ℕ) → All (λ y. k ≡ y → ⊥) (es ++ fs) → All (λ y. k ≡ y → ⊥) es
+pub all_front : (k : ℕ) (es fs : List ℕ) → AllByRecursion (λ y. k ≡ y → ⊥) (es ++ fs) → AllByRecursion (λ y. k ≡ y → ⊥) es
 all_front k [] fs a = tt
 all_front k (y ∷ es) fs a = (a.0, all_front k es fs a.1)
 
-pub all_rest : (k : ℕ) (es fs : List ℕ) → All (λ y. k ≡ y → ⊥) (es ++ fs) → All (λ y. k ≡ y → ⊥) fs
+pub all_rest : (k : ℕ) (es fs : List ℕ) → AllByRecursion (λ y. k ≡ y → ⊥) (es ++ fs) → AllByRecursion (λ y. k ≡ y → ⊥) fs
 all_rest k [] fs a = a
 all_rest k (y ∷ es) fs a = all_rest k es fs a.1
 
@@ -38,11 +38,11 @@ once_rest [] fs o = o
 once_rest (x ∷ es) fs o = once_rest es fs o.1
 
 -- what stands in front does not come again
-once_has : (k : ℕ) (es fs : List ℕ) → Once (es ++ fs) → has k es ≡ true → All (λ y. k ≡ y → ⊥) fs
+once_has : (k : ℕ) (es fs : List ℕ) → Once (es ++ fs) → has k es ≡ true → AllByRecursion (λ y. k ≡ y → ⊥) fs
 once_has k [] fs o e = absurd (false≢true e)
 once_has k (x ∷ es) fs o e =
     ⊎_elim
-    (λ t. subst (λ (i : ℕ). All (λ y. i ≡ y → ⊥) fs) (eqb-true x k t) (all_rest x es fs o.0))
+    (λ t. subst (λ (i : ℕ). AllByRecursion (λ y. i ≡ y → ⊥) fs) (eqb-true x k t) (all_rest x es fs o.0))
     (λ t. once_has k es fs o.1 t)
     (or_cases (eqb x k) (has k es) e)
 
@@ -62,7 +62,7 @@ nth_call k j x a h i y e = go (eqb j k) refl i e
     go false q i e = inr (i, e, refl)
 
 -- a number that no call of the history brings in
-pub not_entered : {V : Type 0} (h : List (Event V)) (k : ℕ) → All (λ y. k ≡ y → ⊥) (entrants h) → (j i : ℕ) (y : Action V) → slice_get (calls_by j h) i ≡ Some y → has k (entrant y) ≡ true → ⊥
+pub not_entered : {V : Type 0} (h : List (Event V)) (k : ℕ) → AllByRecursion (λ y. k ≡ y → ⊥) (entrants h) → (j i : ℕ) (y : Action V) → slice_get (calls_by j h) i ≡ Some y → has k (entrant y) ≡ true → ⊥
 not_entered [] k f j i y e b = none_some _ e
 not_entered (accepted l x a ∷ h) k f j i y e b =
     ⊎_elim
@@ -108,7 +108,7 @@ entered es [] = es
 entered es (accepted j x a ∷ h) = entered (entrant x ++ es) h
 entered es (refused j x r ∷ h) = entered es h
 
-pub fresh_once : {V : Type 0} (es : List ℕ) (h : List (Event V)) → ((y : ℕ) → has y es ≡ true → All (λ z. y ≡ z → ⊥) (entrants h)) → Once (entrants h) → Fresh es h
+pub fresh_once : {V : Type 0} (es : List ℕ) (h : List (Event V)) → ((y : ℕ) → has y es ≡ true → AllByRecursion (λ z. y ≡ z → ⊥) (entrants h)) → Once (entrants h) → Fresh es h
 fresh_once es [] p o = tt
 fresh_once es (accepted j x a ∷ h) p o = (
   (λ k e. ⊎_elim (λ t. absurd (all_has k (entrant x) (all_front k (entrant x) (entrants h) (p k t)) e)) (λ f. f) (cases_Bool (has k es))),
@@ -119,14 +119,14 @@ fresh_once es (accepted j x a ∷ h) p o = (
 fresh_once es (refused j x r ∷ h) p o = fresh_once es h p o
 
 -- who has not entered at the end was brought in by no register, and was not there before
-pub not_entered_end : {V : Type 0} (es : List ℕ) (h : List (Event V)) (k : ℕ) → has k (entered es h) ≡ false → (has k es ≡ false) × All (λ y. k ≡ y → ⊥) (entrants h)
+pub not_entered_end : {V : Type 0} (es : List ℕ) (h : List (Event V)) (k : ℕ) → has k (entered es h) ≡ false → (has k es ≡ false) × AllByRecursion (λ y. k ≡ y → ⊥) (entrants h)
 not_entered_end es [] k e = (e, tt)
 not_entered_end es (accepted j x a ∷ h) k e =
     let q = not_entered_end (entrant x ++ es) h k e in
     let r = or_parts (has k (entrant x)) (has k es) (sym (has_append k (entrant x) es) ∙ q.0) in
     (r.1, both (entrant x) r.0 q.1)
   where
-    both : (fs : List ℕ) → has k fs ≡ false → All (λ y. k ≡ y → ⊥) (entrants h) → All (λ y. k ≡ y → ⊥) (fs ++ entrants h)
+    both : (fs : List ℕ) → has k fs ≡ false → AllByRecursion (λ y. k ≡ y → ⊥) (entrants h) → AllByRecursion (λ y. k ≡ y → ⊥) (fs ++ entrants h)
     both [] e q = q
     both (y ∷ fs) e q = let r = or_parts (eqb y k) (has k fs) e in ((λ p. true_false (eqb y k) (eq-eqb y k (sym p)) r.0), both fs r.1 q)
 not_entered_end es (refused j x r ∷ h) k e = not_entered_end es h k e

@@ -2,7 +2,7 @@
 use Rattle.std.proofs.Common.{◌≡◌, ℕ, ◌-◌, ◌<◌, ◌≤◌, true, false, eqb, ◌⊎◌, List, [], ◌∷◌, Some, None, Option, sym, refl, ap, ◌∙◌, subst, inl, inr, ⊎_elim, arith}
 use mathlib.Core.Path.{fun_ext}
 use Rattle.std.proofs.lemmas.Bool.{cases_Bool, eq-eqb, eqb-true, or_cases, or_left, false≢true}
-use Rattle.std.specs.List.{slice_get, AllByRecursion as All}
+use Rattle.std.specs.List.{slice_get, AllByRecursion}
 use Rattle.refusal.specs.Limits.{stations}
 use Rattle.phaser.specs.declared.Mode.{Mode}
 use Rattle.phaser.specs.declared.view.View.{View}
@@ -50,7 +50,7 @@ module _ {V : Type 0} (neutral : V) (join : V → V → V) (j : ℕ) (mode : Mod
   replayed calls h t e once hist =
       replay calls j (newly mode) neutral join (λ n. joining_of neutral join (accepted_for n h)) 0 start_state h t (made_good neutral j mode limit maker) (j ∷ [])
       (tracked_made calls h e)
-      (fresh_once (j ∷ []) h (λ y b. subst (λ (i : ℕ). All (λ z. i ≡ z → ⊥) (entrants h)) (sym (has_one y b)) once.0) once.1)
+      (fresh_once (j ∷ []) h (λ y b. subst (λ (i : ℕ). AllByRecursion (λ z. i ≡ z → ⊥) (entrants h)) (sym (has_one y b)) once.0) once.1)
       (totals_complete neutral join j mode limit h t hist)
       hist.run
 

@@ -1,6 +1,6 @@
 -- The law of the record, over every history of a board and an accumulator just made. Assumes nothing.
 use Rattle.std.specs.Prelude.{◌≡◌, ℕ, ◌<◌, ◌≢◌, List, [], ◌∷◌, Some}
-use Rattle.std.specs.List.{slice_get, AllByRecursion as All}
+use Rattle.std.specs.List.{slice_get, AllByRecursion}
 use Rattle.refusal.specs.declared.Refusal.{Refusal}
 use Rattle.refusal.specs.declared.Refusal.TheVariants.{LastPassKept, NotKept}
 use Rattle.refusal.specs.Limits.{stations}
@@ -25,7 +25,7 @@ pub record StrictOrder (vs : List View) : Type 0 where
 -- no number stands twice in the list
 abbrev pub Once : List ℕ → Type 0
 Once [] = Unit {0}
-Once (x ∷ xs) = All (λ y. x ≢ y) xs × Once xs
+Once (x ∷ xs) = AllByRecursion (λ y. x ≢ y) xs × Once xs
 
 -- a refusal other than the two that come in no history: of a pass that is not kept, and of a move on past the last pass
 pub record Expected (r : Refusal) : Type 0 where

@@ -1,6 +1,6 @@
 -- Rules that are tried in turn: the first broken one gives the refusal. Assumes nothing.
 use Rattle.std.specs.Prelude.{◌≡◌, Bool, true, cond, List, [], ◌∷◌, Ok, Err, Result}
-use Rattle.std.specs.List.{AllByRecursion as All}
+use Rattle.std.specs.List.{AllByRecursion}
 use Rattle.refusal.specs.declared.Refusal.{Refusal}
 
 -- what must hold, and the refusal where it does not
@@ -20,4 +20,4 @@ verdict [] = Ok tt
 verdict (r ∷ rs) = cond r.holds (verdict rs) (Err r.otherwise)
 
 abbrev pub EveryRuleHolds : List Rule → Type 0
-EveryRuleHolds rules = All (λ r. r.holds ≡ true) rules
+EveryRuleHolds rules = AllByRecursion (λ r. r.holds ≡ true) rules

@@ -7,11 +7,11 @@ use Rattle.board.proofs.holders.held_by.Goals as goal
 pub loop-k-init : goal.loop-k-init
 loop-k-init c = (sym (at_drop_all (holding c.args.wp) c.args.seats.now _ (omega arith)), omega arith)
 
-pub overflow-mul-set : goal.overflow-mul-set
-overflow-mul-set c = let r = room_for_one c.args.wp c.args.seats.now c.loop-k.k c.requires (omega arith) in omega arith
+pub overflow_mul-set : goal.overflow_mul-set
+overflow_mul-set c = let r = room_for_one c.args.wp c.args.seats.now c.loop-k.k c.requires (omega arith) in omega arith
 
-pub overflow-add-set : goal.overflow-add-set
-overflow-add-set c =
+pub overflow_add-set : goal.overflow_add-set
+overflow_add-set c =
     let r = room_for_one c.args.wp c.args.seats.now c.loop-k.k c.requires (omega arith) in
     let bit = bit_of c.holds.result in
     let low = bit_le c.holds.result in

@@ -12,6 +12,6 @@ pub returns : goal.returns
 returns g c =
     let seats = c.args.self.now.members.seats in
     let seen = view_of (get_or seats c.args.waiter None) in
-    let view = (answered (verdict (entry_rules seats c.args.waiter verb.Wait)) c.in-ok-view.view seen c.in-ok-view.ensures).1 in
-    let set = c.held-by-set.ensures ∙ (λ i. holding (view i).wp (c.seats-of.ensures.value i)) in
+    let view = (answered (verdict (entry_rules seats c.args.waiter verb.Wait)) c.in_ok-view.view seen c.in_ok-view.ensures).1 in
+    let set = c.held_by-set.ensures ∙ (λ i. holding (view i).wp (c.seats_of.ensures.value i)) in
     record { answer = search rules; bits = λ k. ap (λ n. n / 2 ^ k % 2) set ∙ bits_of seen.wp seats k }

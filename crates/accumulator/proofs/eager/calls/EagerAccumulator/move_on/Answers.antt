@@ -8,11 +8,11 @@ pub returns : goal.returns
 returns g c =
     let neutral = g.V.Joining.neutral in
     let window = c.args.self.now.window in
-    let next = c.in-ok-next.next in
-    let moved = c.in-ok-next.ensures in
+    let next = c.in_ok-next.next in
+    let moved = c.in_ok-next.ensures in
     let xs = c.args.self.now.totals in
-    let slot = c.slot-of.result in
-    let is = c.slot-of.ensures.is in
+    let slot = c.slot_of.result in
+    let is = c.slot_of.ensures.is in
     let whole : length xs ≡ kept = search rules in
     let inside : slot < length xs = omega arith in
     let y = c.neutral.result in

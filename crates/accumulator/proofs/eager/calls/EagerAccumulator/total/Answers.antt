@@ -9,8 +9,8 @@ returns g c =
     let neutral = g.V.Joining.neutral in
     let window = c.args.self.now.window in
     let xs = c.args.self.now.totals in
-    let slot = c.slot-of.result in
+    let slot = c.slot_of.result in
     let whole : length xs ≡ kept = search rules in
     let inside : slot < length xs = omega arith in
     slot_told neutral (λ r. get_or xs r neutral) window.limit window.first c.args.pass _
-    c.in-ok-try-total.ensures (get_or_default xs slot _ neutral inside ∙ ap (λ k. get_or xs k neutral) c.slot-of.ensures.is)
+    c.in_ok-try_total.ensures (get_or_default xs slot _ neutral inside ∙ ap (λ k. get_or xs k neutral) c.slot_of.ensures.is)

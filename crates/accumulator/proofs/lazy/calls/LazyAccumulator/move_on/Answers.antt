@@ -9,7 +9,7 @@ use Rattle.accumulator.proofs.lazy.calls.LazyAccumulator.move_on.Goals as goal
 pub loop-station-preserved : goal.loop-station-preserved
 loop-station-preserved g c =
     let inv = c.loop-station.invariant in
-    (inv.0, inv.1, wiped_more g.V.Joining.neutral c.args.self.now.cells.now c.loop-station.self.cells.now c.slot-of-slot.result c.loop-station.station c.neutral.result c.neutral.ensures inv.2)
+    (inv.0, inv.1, wiped_more g.V.Joining.neutral c.args.self.now.cells.now c.loop-station.self.cells.now c.slot_of-slot.result c.loop-station.station c.neutral.result c.neutral.ensures inv.2)
 
 pub returns : goal.returns
 returns g c =
@@ -19,13 +19,13 @@ returns g c =
     let inv = c.loop-station.invariant in
     let s = c.args.self.now in
     let limit = s.window.limit in
-    let next = c.in-ok-next.next in
-    let moved = c.in-ok-next.ensures in
+    let next = c.in_ok-next.next in
+    let moved = c.in_ok-next.ensures in
     let xs = s.cells.now in
     let ys = c.loop-station.self.cells.now in
-    let slot = c.slot-of-slot.result in
-    let is = c.slot-of-slot.ensures.is in
-    let within = c.slot-of-slot.ensures.within in
+    let slot = c.slot_of-slot.result in
+    let is = c.slot_of-slot.ensures.is in
+    let within = c.slot_of-slot.ensures.within in
     let room : kept * limit ≤ length xs = s.room in
     let all : c.loop-station.station ≡ limit = omega (arith, moved.1) in
     let wipe : ys ≡ wiped v.neutral slot limit xs = inv.2 ∙ ap (λ n. wiped v.neutral slot n xs) all in
