@@ -24,8 +24,8 @@ pub enum Answer<V> {
 
 /// Makes one call.
 fn make<A: Accumulator>(accumulator: &mut A, call: Call<A::Value>) -> Answer<A::Value>
-    ensures result { (result, meaning accumulator.new) ≡ answered A.Value.Joining.neutral A.Value.Joining.joined (meaning accumulator.old) call }
-    ensures spare { spare accumulator.new ≡ spare accumulator.old }
+    ensures result { (result, A.meaning accumulator.new) ≡ answered A.Value.neutral A.Value.joined (A.meaning accumulator.old) call }
+    ensures spare { A.spare accumulator.new ≡ A.spare accumulator.old }
 {
     match call {
         Call::Add {
@@ -53,8 +53,8 @@ pub fn play<A: Accumulator>(
     calls: &[Call<A::Value>],
     heap: Global,
 ) -> Result<Vec<Answer<A::Value>>, AllocError>
-    ensures result { MatchResult result (λ v. (v.items, meaning accumulator.new) ≡ run A.Value.Joining.neutral A.Value.Joining.joined (meaning accumulator.old) calls.now) (λ _. meaning accumulator.new ≡ meaning accumulator.old) }
-    ensures spare { spare accumulator.new ≡ spare accumulator.old }
+    ensures result { MatchResult result (λ v. (v.items, A.meaning accumulator.new) ≡ run A.Value.neutral A.Value.joined (A.meaning accumulator.old) calls.now) (λ _. A.meaning accumulator.new ≡ A.meaning accumulator.old) }
+    ensures spare { A.spare accumulator.new ≡ A.spare accumulator.old }
 {
     let mut answers = Vec::with_capacity(heap, calls.len())?;
     for call in calls {
@@ -70,7 +70,7 @@ pub fn play_both<A: Accumulator, B: Accumulator<Value = A::Value>>(
     calls: &[Call<A::Value>],
     heap: Global,
 ) -> Result<(Vec<Answer<A::Value>>, Vec<Answer<A::Value>>), AllocError>
-    ensures { MatchResult result (λ answers. Interchangeable A.Value.Joining.neutral A.Value.Joining.joined (A.Accumulator.meaning left.old) (B.Accumulator.meaning right.old) calls.now (answers.0.items, A.Accumulator.meaning left.new) (answers.1.items, B.Accumulator.meaning right.new)) (λ _. B.Accumulator.meaning right.new ≡ B.Accumulator.meaning right.old) }
+    ensures { MatchResult result (λ answers. Interchangeable A.Value.neutral A.Value.joined (A.meaning left.old) (B.meaning right.old) calls.now (answers.0.items, A.meaning left.new) (answers.1.items, B.meaning right.new)) (λ _. B.meaning right.new ≡ B.meaning right.old) }
 {
     let left_answers = play(left, calls, heap)?;
     let right_answers = play(right, calls, heap)?;

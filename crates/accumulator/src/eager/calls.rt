@@ -23,7 +23,7 @@ impl<V: Joining + Copy> Eager<V> {
     /// An accumulator for the stations below the limit: its first kept pass is 0, and its totals are neutral.
     pub fn new(limit: usize) -> Eager<V>
         requires { verdict (eager_rules limit) ≡ Ok tt }
-        ensures { eager_meaning neutral result ≡ made_with neutral limit }
+        ensures { eager_meaning V.neutral result ≡ made_with V.neutral limit }
     {
         Eager {
             window: Window::new(limit),

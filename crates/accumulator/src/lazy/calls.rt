@@ -16,7 +16,7 @@ use refusal::Refusal;
 /// Sets the first `n` cells neutral.
 fn clear<V: Joining + Copy>(cells: &mut [V], n: usize)
     requires { n ≤ length cells.old }
-    ensures { cells.new ≡ cleared neutral n cells.old }
+    ensures { cells.new ≡ cleared V.neutral n cells.old }
 {
     for i in 0..n {
         cells[i] = V::neutral();
@@ -38,8 +38,8 @@ impl<'a, V: Joining + Copy> Lazy<'a, V> {
     /// An accumulator in the lent cells: its first kept pass is 0, and its totals are neutral.
     pub fn new(limit: usize, cells: &'a mut [V]) -> Lazy<'a, V>
         requires { verdict (lazy_rules limit (length cells.old)) ≡ Ok tt }
-        ensures meaning { lazy_meaning neutral joined result ≡ made_with neutral limit }
-        ensures cells { result.cells.now ≡ cleared neutral (kept * limit) cells.old }
+        ensures meaning { lazy_meaning V.neutral V.joined result ≡ made_with V.neutral limit }
+        ensures cells { result.cells.now ≡ cleared V.neutral (kept * limit) cells.old }
         ensures lent { result.cells.ghost_name ≡ cells.entry.ghost_name }
     {
         clear(cells, KEPT * limit);
