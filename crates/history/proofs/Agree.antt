@@ -2,7 +2,7 @@
 use Rattle.std.proofs.Common.{◌≡◌, ℕ, ◌+◌, ◌<◌, true, not, ltb, leb, [], ◌∷◌, is_some, Some, None, Ok, Err, Option, Result, sym, refl, ap, ◌∙◌, subst, arith}
 use Rattle.std.proofs.ByRecursion.{All-append}
 use Rattle.std.proofs.lemmas.List.{length-set}
-use Rattle.std.proofs.lemmas.Bool.{leb-true, ltb-true, le_leb, lt-ltb, and_parts}
+use Rattle.std.proofs.lemmas.Bool.{leb-true, ltb-true, le-leb, lt-ltb, and_parts}
 use Rattle.refusal.specs.declared.Refusal.{Refusal}
 use Rattle.refusal.specs.declared.Refusal.TheVariants.{NotSigned}
 use Rattle.refusal.specs.Limits.{stations, last_pass}
@@ -140,7 +140,7 @@ module _ {V : Type 0} (neutral : V) (join : V → V → V) (s : State V) (sound 
       (lt-ltb j stations i, (lt-ltb other stations f, (ap is_some p.member, (ap (λ (o : Option View). not (is_some o)) p.absent, (may_admit v.mode r p.waiter p.signer, tt)))))
   from_rule Signal v a d h i f =
       let p = h.0 in
-      (lt-ltb j stations i, (ap is_some p.member, (p.signer, (may_sign v.mode v.sp v.wp p.turn, (le_leb (v.sp + 1) last_pass f, tt)))))
+      (lt-ltb j stations i, (ap is_some p.member, (p.signer, (may_sign v.mode v.sp v.wp p.turn, (le-leb (v.sp + 1) last_pass f, tt)))))
   from_rule Wait v a d h i f =
       let p = h.0 in (
         lt-ltb j stations i,
@@ -151,7 +151,7 @@ module _ {V : Type 0} (neutral : V) (join : V → V → V) (s : State V) (sound 
             (
               may_wait v.mode v.sp v.wp p.turn,
               (
-                le_leb (v.wp + 1) last_pass f,
+                le-leb (v.wp + 1) last_pass f,
                 All-append (λ r. r.holds ≡ true) (moving_rules s.account.first v) (rule (all_signed (v.wp + 1) s.members) (NotSigned j) ∷ []) (moves_within s.account.first v f (reaches s.account.first v) refl) (up_all (v.wp + 1) s.members p.await, tt),
               ),
             ),
@@ -169,7 +169,7 @@ module _ {V : Type 0} (neutral : V) (join : V → V → V) (s : State V) (sound 
             (
               may_sign v.mode v.sp v.wp (λ e. p.turn),
               (
-                le_leb (v.sp + 1) last_pass f.0,
+                le-leb (v.sp + 1) last_pass f.0,
                 (lt-ltb j s.account.limit f.1, (f.2, tt)),
               ),
             ),

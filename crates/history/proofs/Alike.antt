@@ -1,5 +1,5 @@
 -- Where each view is a function of the calls still to come, what hangs on the view alone is the same on both boards. Assumes nothing.
-use Rattle.std.proofs.Common.{◌≡◌, ℕ, zero, suc, ◌-◌, ◌≤◌, true, ◌⊎◌, List, [], ◌∷◌, map, drop, Some, Option, sym, refl, ap, ◌∙◌, subst, ap₂, ⊎_elim, arith}
+use Rattle.std.proofs.Common.{◌≡◌, ℕ, zero, suc, ◌≤◌, true, ◌⊎◌, List, [], ◌∷◌, map, drop, Some, Option, sym, refl, ap, ◌∙◌, subst, ap₂, ⊎_elim, arith}
 use Rattle.phaser.specs.declared.view.View.{View}
 use Rattle.phaser.specs.declared.call.Action.{Action}
 use Rattle.phaser.specs.declared.call.Action.TheVariants.{Register, Signal, Wait, Drop, Send, Result as AskResult, View as AskView}

@@ -1,6 +1,6 @@
 -- No call on a board at a level is refused for a pass that is not kept, nor for a move on. Assumes nothing.
 use Rattle.std.proofs.Common.{◌≡◌, ℕ, ◌+◌, ◌<◌, ◌≤◌, Bool, true, false, cond, List, [], ◌∷◌, ◌++◌, is_some, Err, sym, refl, ap, ◌∙◌, arith}
-use Rattle.std.proofs.lemmas.Bool.{leb-true, le_leb, lt-ltb, and_from}
+use Rattle.std.proofs.lemmas.Bool.{leb-true, le-leb, lt-ltb, and_from}
 use Rattle.refusal.specs.declared.Refusal.{Refusal}
 use Rattle.refusal.specs.declared.Refusal.TheVariants.{NoStation, NotMember, AlreadyMember, ModeDenied, OutOfTurn, PastLastPass, NotSigned, NothingObserved, NoCell}
 use Rattle.refusal.specs.declared.Layer.TheVariants.{Board, Accumulator}
@@ -54,7 +54,7 @@ no_cell j = record { kept = λ p e. let z : ◌≡◌ {A = ℕ} 0 1 = cc in omeg
 -- ---- what an SW may read is kept, and what it may send to
 
 kept_within : (f p : ℕ) → f ≤ p → p < f + kept → keeps f p ≡ true
-kept_within f p low high = and_from _ _ (le_leb f p low) (lt-ltb p (f + kept) high)
+kept_within f p low high = and_from _ _ (le-leb f p low) (lt-ltb p (f + kept) high)
 
 module _ {V : Type 0} (l : ℕ) (s : State V) (g : Good l s) (j : ℕ) where
   abbrev me : View

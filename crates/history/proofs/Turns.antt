@@ -1,6 +1,6 @@
 -- The tests of a call in the words of its rule, both ways. Assumes nothing.
 use Rattle.std.proofs.Common.{◌≡◌, ℕ, zero, suc, ◌+◌, ◌≤◌, Bool, true, false, cond, not, ◌&&◌, ◌||◌, eqb, leb, List, [], ◌∷◌, get_or, is_some, Some, None, Option, sym, refl, ap, ◌∙◌, subst, arith}
-use Rattle.std.proofs.lemmas.Bool.{not-true, not_from_false, eqb-true, eqb-false, ne_eqb, leb-true, le_leb, lt-ltb, and_parts, and_from, false≢true}
+use Rattle.std.proofs.lemmas.Bool.{not-true, not_from_false, eqb-true, eqb-false, ne_eqb, leb-true, le-leb, lt-ltb, and_parts, and_from, false≢true}
 use Rattle.refusal.specs.Limits.{last_pass}
 use Rattle.refusal.specs.Rules.{EveryRuleHolds}
 use Rattle.phaser.specs.declared.Mode.{Mode}
@@ -81,7 +81,7 @@ pub up_all : (n : ℕ) (ms : List (Option View)) → ((k : ℕ) (w : View) → g
 up_all n [] h = refl
 up_all n (None ∷ ms) h = up_all n ms (λ k. h (suc k))
 up_all n (Some v ∷ ms) h =
-    and_from (has_signed n (Some v)) (all_signed n ms) (implied (signs v.mode) (leb n v.sp) (λ t. le_leb n v.sp (h 0 v refl t))) (up_all n ms (λ k. h (suc k)))
+    and_from (has_signed n (Some v)) (all_signed n ms) (implied (signs v.mode) (leb n v.sp) (λ t. le-leb n v.sp (h 0 v refl t))) (up_all n ms (λ k. h (suc k)))
 
 -- ---- the move on
 

@@ -10,15 +10,15 @@ use joining::Joining;
 
 /// A call is accepted just where its rule applies within the limits, wherever the views are sound.
 pub fn rules_agree<V: Joining>()
-    ensures { RulesAgree neutral joined }
+    ensures { RulesAgree V.neutral V.joined }
 {}
 
 /// Every list of calls on a board just made is recorded lawfully.
 pub fn law_of_the_record<V: Joining>()
-    ensures { RecordIsLawful neutral joined }
+    ensures { RecordIsLawful V.neutral V.joined }
 {}
 
 /// An account of who sent what for a pass hangs on no order, where the sends of different stations commute.
 pub fn accounts_order_free<V: Joining, A>()
-    ensures { AccountsOrderFree neutral joined A }
+    ensures { AccountsOrderFree V.neutral V.joined A }
 {}
