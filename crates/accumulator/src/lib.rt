@@ -32,7 +32,7 @@ pub trait Accumulator {
 
     /// The neutral value of the kind.
     fn neutral() -> Self::Value
-        ensures { result ≡ Self.Value.Joining.neutral };
+        ensures { result ≡ Self.Value.neutral };
 
     /// The first kept pass.
     fn first(&self) -> u32
@@ -40,16 +40,16 @@ pub trait Accumulator {
 
     /// Joins a station's value to the total of a pass.
     fn add(&mut self, station: u8, pass: u32, value: Self::Value) -> Result<(), Refusal>
-        ensures result { (result, meaning self.new) ≡ added Self.Value.Joining.neutral Self.Value.Joining.joined (meaning self.old) station pass value }
+        ensures result { (result, meaning self.new) ≡ added Self.Value.neutral Self.Value.joined (meaning self.old) station pass value }
         ensures spare { spare self.new ≡ spare self.old };
 
     /// The total of a pass.
     fn total(&self, pass: u32) -> Result<Self::Value, Refusal>
-        ensures { result ≡ total_of Self.Value.Joining.neutral (meaning self.now) pass };
+        ensures { result ≡ total_of Self.Value.neutral (meaning self.now) pass };
 
     /// Forgets the first kept pass, and keeps a new one.
     fn move_on(&mut self) -> Result<(), Refusal>
-        ensures result { (result, meaning self.new) ≡ moved_on Self.Value.Joining.neutral (meaning self.old) }
+        ensures result { (result, meaning self.new) ≡ moved_on Self.Value.neutral (meaning self.old) }
         ensures spare { spare self.new ≡ spare self.old };
 }
 

@@ -2,7 +2,7 @@
 use Rattle.std.proofs.Common.{◌≡◌, ℕ, zero, suc, ◌+◌, ◌*◌, ◌/◌, ◌%◌, ◌^◌, ◌<◌, ◌≤◌, Bool, true, false, cond, List, [], ◌∷◌, length, get_or, drop, Option, sym, refl, ap, ◌∙◌, mul_comm, pow-suc, arith, length-drop, pow_mono}
 use mir.Val.{bool_byte}
 use native.Mathlib.Nat.{zero-div, div-div-eq-div-mul}
-use Rattle.std.proofs.lemmas.List.{at_drop_more, at_drop_all}
+use Rattle.std.proofs.lemmas.List.{at_drop_more}
 use Rattle.phaser.specs.declared.view.View.{View}
 use Rattle.board.specs.Holders.{holds_back, holding, BitsOf}
 

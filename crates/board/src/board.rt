@@ -39,7 +39,7 @@ impl<A: Accumulator> Board<A> {
     /// A board whose only member has signed and observed nothing.
     pub fn new(first: u8, mode: Mode, accumulator: A) -> Board<A>
         requires { verdict (board_rules first) ≡ Ok tt }
-        ensures state { board_state meaning result ≡ made_on first mode (meaning accumulator) }
+        ensures state { board_state A.meaning result ≡ made_on first mode (A.meaning accumulator) }
         ensures same { result.accumulator ≡ accumulator }
     {
         Board {
@@ -50,8 +50,8 @@ impl<A: Accumulator> Board<A> {
 
     /// Brings in another station with the caller's counts, and answers them.
     pub fn register(&mut self, caller: u8, other: u8, mode: Mode) -> Result<(u32, u32), Refusal>
-        ensures result { (as_answer (λ c. Registered c.0 c.1) result, board_state meaning self.new) ≡ step Value-as-Joining.neutral Value-as-Joining.joined (board_state meaning self.old) caller (Register other mode) }
-        ensures spare { spare self.new.accumulator ≡ spare self.old.accumulator }
+        ensures result { (as_answer (λ c. Registered c.0 c.1) result, board_state A.meaning self.new) ≡ step A.Value.neutral A.Value.joined (board_state A.meaning self.old) caller (Register other mode) }
+        ensures spare { A.spare self.new.accumulator ≡ A.spare self.old.accumulator }
     {
         if caller >= STATIONS {
             return Err(Refusal::NoStation { station: caller });
@@ -72,8 +72,8 @@ impl<A: Accumulator> Board<A> {
 
     /// Raises the passes that the caller has signed by one, and answers them.
     pub fn signal(&mut self, caller: u8) -> Result<u32, Refusal>
-        ensures result { (as_answer Signaled result, board_state meaning self.new) ≡ step Value-as-Joining.neutral Value-as-Joining.joined (board_state meaning self.old) caller Signal }
-        ensures spare { spare self.new.accumulator ≡ spare self.old.accumulator }
+        ensures result { (as_answer Signaled result, board_state A.meaning self.new) ≡ step A.Value.neutral A.Value.joined (board_state A.meaning self.old) caller Signal }
+        ensures spare { A.spare self.new.accumulator ≡ A.spare self.old.accumulator }
     {
         let view = self.members.enter(caller, Verb::Signal)?;
         let sp = next_to_sign(view, caller)?;
@@ -83,8 +83,8 @@ impl<A: Accumulator> Board<A> {
 
     /// Raises the passes that the caller has observed by one, and answers them.
     pub fn wait(&mut self, caller: u8) -> Result<u32, Refusal>
-        ensures result { (as_answer Observed result, board_state meaning self.new) ≡ step Value-as-Joining.neutral Value-as-Joining.joined (board_state meaning self.old) caller Wait }
-        ensures spare { spare self.new.accumulator ≡ spare self.old.accumulator }
+        ensures result { (as_answer Observed result, board_state A.meaning self.new) ≡ step A.Value.neutral A.Value.joined (board_state A.meaning self.old) caller Wait }
+        ensures spare { A.spare self.new.accumulator ≡ A.spare self.old.accumulator }
     {
         let view = self.members.enter(caller, Verb::Wait)?;
         let wp = next_to_observe(view, caller)?;
@@ -100,8 +100,8 @@ impl<A: Accumulator> Board<A> {
 
     /// Removes the caller.
     pub fn drop(&mut self, caller: u8) -> Result<(), Refusal>
-        ensures result { (as_answer (λ _. Dropped) result, board_state meaning self.new) ≡ step Value-as-Joining.neutral Value-as-Joining.joined (board_state meaning self.old) caller Drop }
-        ensures spare { spare self.new.accumulator ≡ spare self.old.accumulator }
+        ensures result { (as_answer (λ _. Dropped) result, board_state A.meaning self.new) ≡ step A.Value.neutral A.Value.joined (board_state A.meaning self.old) caller Drop }
+        ensures spare { A.spare self.new.accumulator ≡ A.spare self.old.accumulator }
     {
         self.members.enter(caller, Verb::Drop)?;
         self.members.put(caller, None);
@@ -110,8 +110,8 @@ impl<A: Accumulator> Board<A> {
 
     /// Takes a value for the pass that the caller signs next, and answers that pass.
     pub fn send(&mut self, caller: u8, value: A::Value) -> Result<u32, Refusal>
-        ensures result { (as_answer Sent result, board_state meaning self.new) ≡ step A.Value.Joining.neutral A.Value.Joining.joined (board_state meaning self.old) caller (Send value) }
-        ensures spare { spare self.new.accumulator ≡ spare self.old.accumulator }
+        ensures result { (as_answer Sent result, board_state A.meaning self.new) ≡ step A.Value.neutral A.Value.joined (board_state A.meaning self.old) caller (Send value) }
+        ensures spare { A.spare self.new.accumulator ≡ A.spare self.old.accumulator }
     {
         let view = self.members.enter(caller, Verb::Send)?;
         let pass = next_to_sign(view, caller)?;
@@ -121,7 +121,7 @@ impl<A: Accumulator> Board<A> {
 
     /// The last pass that the caller has observed, and its total.
     pub fn result(&self, caller: u8) -> Result<(u32, A::Value), Refusal>
-        ensures { (as_answer (λ t. Total t.0 t.1) result, board_state meaning self.now) ≡ step A.Value.Joining.neutral A.Value.Joining.joined (board_state meaning self.now) caller AskResult }
+        ensures { (as_answer (λ t. Total t.0 t.1) result, board_state A.meaning self.now) ≡ step A.Value.neutral A.Value.joined (board_state A.meaning self.now) caller AskResult }
     {
         let view = self.members.enter(caller, Verb::Result)?;
         if view.wp == 0 {
@@ -133,7 +133,7 @@ impl<A: Accumulator> Board<A> {
 
     /// The caller's view.
     pub fn view(&self, caller: u8) -> Result<View, Refusal>
-        ensures { (as_answer Viewed result, board_state meaning self.now) ≡ step A.Value.Joining.neutral A.Value.Joining.joined (board_state meaning self.now) caller AskView }
+        ensures { (as_answer Viewed result, board_state A.meaning self.now) ≡ step A.Value.neutral A.Value.joined (board_state A.meaning self.now) caller AskView }
     {
         self.members.enter(caller, Verb::View)
     }
