@@ -36,14 +36,14 @@ module _ {V : Type 0} where
     drop_wiped limit zero h = refl
     drop_wiped limit (suc n) h = drop-set-lt (kept * limit) (wiped neutral slot n xs) (kept * n + slot) neutral (omega arith) ∙ drop_wiped limit n (omega arith)
 
-    getD_wiped : (n k : ℕ) → k < n → kept * n ≤ length xs → get_or (wiped neutral slot n xs) (kept * k + slot) neutral ≡ neutral
-    getD_wiped zero k h room = absurd (omega arith)
-    getD_wiped (suc n) k h room =
+    get_or-wiped : (n k : ℕ) → k < n → kept * n ≤ length xs → get_or (wiped neutral slot n xs) (kept * k + slot) neutral ≡ neutral
+    get_or-wiped zero k h room = absurd (omega arith)
+    get_or-wiped (suc n) k h room =
         let ys : List V = wiped neutral slot n xs in
         let i : ℕ = kept * n + slot in
         ⊎_elim
         (λ (e : k ≡ n). ap (λ j. get_or (set ys i neutral) (kept * j + slot) neutral) e ∙ get_or-set_same ys i neutral neutral (omega (arith, length-wiped n)))
-        (λ (ne : k ≢ n). get_or-set_other ys i (kept * k + slot) neutral neutral (λ e. omega arith) ∙ getD_wiped n k (omega arith) (omega arith))
+        (λ (ne : k ≢ n). get_or-set_other ys i (kept * k + slot) neutral neutral (λ e. omega arith) ∙ get_or-wiped n k (omega arith) (omega arith))
         (cases_eq k n)
 
   module _ {neutral : V} {join : V → V → V} (laws : CommutativeMonoid neutral join) where
@@ -88,7 +88,7 @@ module _ {V : Type 0} where
       pub slot_total_wiped : slot_total neutral join limit (wiped neutral slot limit xs) slot ≡ neutral
       slot_total_wiped =
           let ys : List V = wiped neutral slot limit xs in
-          slot_total_neutral ys limit slot within (omega (arith, length-wiped neutral xs slot within limit)) (λ k lt. getD_wiped neutral xs slot within limit k lt room)
+          slot_total_neutral ys limit slot within (omega (arith, length-wiped neutral xs slot within limit)) (λ k lt. get_or-wiped neutral xs slot within limit k lt room)
 
       pub slot_total_stays : (n other : ℕ) → n ≤ limit → other < kept → other ≢ slot → slot_total neutral join limit (wiped neutral slot n xs) other ≡ slot_total neutral join limit xs other
       slot_total_stays zero other h k ne = refl

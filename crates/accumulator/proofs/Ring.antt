@@ -9,9 +9,9 @@ use Rattle.accumulator.specs.Ring.{ring, length-ring}
 
 module _ {V : Type 0} where
   -- the total at a place, which is that of the pass so far from the first
-  pub getD_ring : (s : ℕ → V) (first k pass : ℕ) (d : V) → k < kept → first + k ≡ pass → get_or (ring s first) k d ≡ s (slot_of pass)
+  pub get_or-ring : (s : ℕ → V) (first k pass : ℕ) (d : V) → k < kept → first + k ≡ pass → get_or (ring s first) k d ≡ s (slot_of pass)
   unfolding ring
-  getD_ring s first k pass d h e = get_or-map-range_with_len (λ p. s (slot_of p)) first kept k pass d h e
+  get_or-ring s first k pass d h e = get_or-map-range_with_len (λ p. s (slot_of p)) first kept k pass d h e
 
   -- the slot of a kept pass changes
   pub ring_set : (s t : ℕ → V) (first pass : ℕ) (y : V) → first ≤ pass → pass < first + kept → t (slot_of pass) ≡ y → ((r : ℕ) → r < kept → r ≢ slot_of pass → t r ≡ s r) → ring t first ≡ set (ring s first) (pass - first) y
@@ -23,10 +23,10 @@ module _ {V : Type 0} where
       let in-ring : k < kept = omega (arith, length-ring t first) in
       let in-old : at < length old = omega (arith, length-ring s first) in
       ⊎_elim
-      (λ (e : k ≡ at). getD_ring t first k pass d in-ring (omega arith) ∙ here ∙ sym (ap (λ n. get_or (set old at y) n d) e ∙ get_or-set_same old at y d in-old))
+      (λ (e : k ≡ at). get_or-ring t first k pass d in-ring (omega arith) ∙ here ∙ sym (ap (λ n. get_or (set old at y) n d) e ∙ get_or-set_same old at y d in-old))
       (λ (ne : k ≢ at).
-      getD_ring t first k (first + k) d in-ring refl ∙ other (slot_of (first + k)) (omega arith) (λ e. omega arith)
-      ∙ sym (get_or-set_other old at k y d ne ∙ getD_ring s first k (first + k) d in-ring refl))
+      get_or-ring t first k (first + k) d in-ring refl ∙ other (slot_of (first + k)) (omega arith) (λ e. omega arith)
+      ∙ sym (get_or-set_other old at k y d ne ∙ get_or-ring s first k (first + k) d in-ring refl))
       (cases_eq k at))
 
   -- the slot of the first kept pass becomes that of the newest
@@ -40,12 +40,12 @@ module _ {V : Type 0} where
       ⊎_elim
       (λ (lt : k < kept - 1).
       let pass : ℕ = first + 1 + k in
-      getD_ring t (first + 1) k pass d in-ring refl ∙ other (slot_of pass) (omega arith) (λ e. omega arith)
-      ∙ sym (get_or_append_left rest (y ∷ []) d k (omega (arith, few)) ∙ get_or-drop 1 (ring s first) k d ∙ getD_ring s first (1 + k) pass d (omega arith) (omega arith)))
+      get_or-ring t (first + 1) k pass d in-ring refl ∙ other (slot_of pass) (omega arith) (λ e. omega arith)
+      ∙ sym (get_or_append_left rest (y ∷ []) d k (omega (arith, few)) ∙ get_or-drop 1 (ring s first) k d ∙ get_or-ring s first (1 + k) pass d (omega arith) (omega arith)))
       (λ (ge : kept - 1 ≤ k).
       let last : k - (kept - 1) ≡ 0 = omega arith in
       let same : slot_of (first + 1 + k) ≡ slot_of first = omega arith in
-      getD_ring t (first + 1) k (first + 1 + k) d in-ring refl ∙ ap t same ∙ here
+      get_or-ring t (first + 1) k (first + 1 + k) d in-ring refl ∙ ap t same ∙ here
       ∙ sym (get_or-append_right rest (y ∷ []) (kept - 1) k d few ge ∙ ap (λ n. get_or (y ∷ []) n d) last))
       (cases_lt k (kept - 1)))
 
@@ -55,4 +55,4 @@ module _ {V : Type 0} where
       same_lists (ring s first) (neutral_totals neutral) (length-ring s first ∙ sym (length-replicate kept neutral))
       (λ k d h.
       let in-ring : k < kept = omega (arith, length-ring s first) in
-      getD_ring s first k (first + k) d in-ring refl ∙ all (slot_of (first + k)) (omega arith) ∙ sym (get_or-replicate kept k neutral d in-ring))
+      get_or-ring s first k (first + k) d in-ring refl ∙ all (slot_of (first + k)) (omega arith) ∙ sym (get_or-replicate kept k neutral d in-ring))

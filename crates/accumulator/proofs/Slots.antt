@@ -7,7 +7,7 @@ use Rattle.refusal.proofs.Verdicts.{unbroken}
 use Rattle.accumulator.specs.Window.{kept, slot_of, keeps, add_rules, total_rules, move_on_rules}
 use Rattle.accumulator.specs.Meaning.{Meaning, answer_by, altered, added, moved_on, with_value, without_first, total_in, total_of, made_with}
 use Rattle.accumulator.specs.Ring.{ring, by_slots}
-use Rattle.accumulator.proofs.Ring.{getD_ring, ring_set, ring_move, ring_neutral}
+use Rattle.accumulator.proofs.Ring.{get_or-ring, ring_set, ring_move, ring_neutral}
 
 kept_parts : (first pass : ℕ) → keeps first pass ≡ true → (first ≤ pass) × (pass < first + kept)
 kept_parts first pass e =
@@ -21,7 +21,7 @@ module _ {V : Type 0} (neutral : V) (s : ℕ → V) (limit first : ℕ) where
   total_is : (pass : ℕ) → keeps first pass ≡ true → total_in neutral (by_slots limit first s) pass ≡ s (slot_of pass)
   total_is pass e =
       let p = kept_parts first pass e in
-      getD_ring s first (pass - first) pass neutral (omega arith) (omega arith)
+      get_or-ring s first (pass - first) pass neutral (omega arith) (omega arith)
 
   pub slots_made : ((r : ℕ) → r < kept → s r ≡ neutral) → first ≡ 0 → by_slots limit first s ≡ made_with neutral limit
   slots_made all none = λ i. record { limit = limit; first = none i; totals = ring_neutral neutral s first all i }

@@ -19,7 +19,7 @@ use Rattle.history.specs.Rules.{put, signed, observed, newcomer, Unlimited, Appl
 use Rattle.history.specs.Limits.{is_sw, reaches, first_after, HasRoom, WithinLimits, unlimited, Shows, Accepted}
 use Rattle.history.specs.Steps.{view_of, all_signed, moving_rules, rules, answer_of, seated, state_by, state_of, step}
 use Rattle.history.specs.Agreement.{RulesAgree}
-use Rattle.history.proofs.Seats.{sw_mode, getD_put}
+use Rattle.history.proofs.Seats.{sw_mode, get_or-put}
 use Rattle.history.proofs.Turns.{present, vacant, sign_in_turn, may_sign, wait_in_turn, may_wait, admitted, may_admit, all_up, up_all, moves_within}
 use Rattle.history.proofs.Outcomes.{member, one_end}
 use Rattle.history.proofs.Shown.{moved, value_joined}
@@ -42,7 +42,7 @@ module _ {V : Type 0} (neutral : V) (join : V → V → V) (s : State V) (sound 
   wrote x k o h f e = record { station = h; room = f; table = length-set s.members k o ∙ sound.table; limit = refl; first = sym e; window = sound.window }
 
   shows_put : (k : ℕ) (o : Option View) → k < stations → Shows neutral (seated s k o) (record { phaser = put (seat s) k o; totals = T })
-  shows_put k o h = record { seats = getD_put s.members k o None (omega (arith, sound.table)); totals = λ p l. refl }
+  shows_put k o h = record { seats = get_or-put s.members k o None (omega (arith, sound.table)); totals = λ p l. refl }
 
   stays : (x : Action V) → j < stations → HasRoom s j me x → first_after s.account.first me x ≡ s.account.first → WithinLimits s j x me s
   stays x h f e = record { station = h; room = f; table = sound.table; limit = refl; first = sym e; window = sound.window }

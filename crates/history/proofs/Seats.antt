@@ -44,8 +44,8 @@ pub of_some : (P : View → Type 0) (v w : View) → Some v ≡ Some w → P v �
 of_some P v w e h = subst P (same_view v w e) h
 
 -- a list after a write is the map after it
-pub getD_put : {X : Type 0} (xs : List X) (i : ℕ) (y d : X) → i < length xs → (k : ℕ) → get_or (set xs i y) k d ≡ put (λ n. get_or xs n d) i y k
-getD_put xs i y d h k =
+pub get_or-put : {X : Type 0} (xs : List X) (i : ℕ) (y d : X) → i < length xs → (k : ℕ) → get_or (set xs i y) k d ≡ put (λ n. get_or xs n d) i y k
+get_or-put xs i y d h k =
     ⊎_elim
     (λ c. ap (λ (n : ℕ). get_or (set xs i y) n d) c.0 ∙ get_or-set_same xs i y d h ∙ sym c.1)
     (λ c. get_or-set_other xs i k y d c.0 ∙ sym c.1)
@@ -58,4 +58,4 @@ made_seat neutral j mode limit h k =
     let size : length empty ≡ stations = length-replicate {A = Option View} stations None in
     let vacant : get_or empty k None ≡ None
     = ⊎_elim (λ lt. get_or-replicate stations k None None lt) (λ ge. get_or_past empty k None (omega arith)) (cases_lt k stations) in
-    getD_put empty j (Some (newly mode)) None (omega arith) k ∙ ap (λ (o : Option View). cond (eqb k j) (Some (newly mode)) o) vacant
+    get_or-put empty j (Some (newly mode)) None (omega arith) k ∙ ap (λ (o : Option View). cond (eqb k j) (Some (newly mode)) o) vacant
