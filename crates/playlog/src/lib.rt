@@ -7,3 +7,5 @@ pub mod log;
 pub mod outcome;
 pub mod play;
 pub mod same;
+#[cfg(test)]
+mod tests;
