@@ -1,4 +1,5 @@
 pub mod Ring
-pub mod Slots
+pub mod OneSlot
 pub mod Cells
+pub mod Filled
 pub mod Runs

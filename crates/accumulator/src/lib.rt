@@ -9,7 +9,9 @@ pub mod eager;
 pub mod lazy;
 pub mod lent;
 pub mod play;
+mod slots;
 mod window;
+mod windowed;
 
 use joining::Joining;
 use refusal::Refusal;
@@ -28,6 +30,7 @@ pub trait Accumulator {
     ghost sound: { (a : Self) → Sound (meaning a) };
 
     /// The cells that are lent, and the further ones among them, which no call writes.
+    // Each call says so for itself: it is a relation of before and after, and a type says a fact of one value.
     ghost spare: { Self → Spare Self.Value };
 
     /// The neutral value of the kind.

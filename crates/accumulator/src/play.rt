@@ -1,6 +1,6 @@
 //! The calls of an accumulator as values, and lists of them played.
 ghost use Rattle.std.specs.Prelude.{◌≡◌, MatchResult};
-ghost use Rattle.accumulator.specs.Run.{answered, run, Interchangeable};
+ghost use Rattle.accumulator.specs.Run.{answered, run, Interchangeable, CutShort};
 
 use crate::Accumulator;
 use refusal::Refusal;
@@ -14,15 +14,11 @@ pub enum Call<V> {
     MoveOn,
 }
 
-/// What a call answers.
-#[derive(Clone, Copy, PartialEq)]
-pub enum Answer<V> {
-    Done,
-    Told(V),
-    Refused(Refusal),
-}
+/// What a call answers: `None` where it is made and tells nothing.
+pub type Answer<V> = Result<Option<V>, Refusal>;
 
 /// Makes one call.
+// A match and no closure: calls are values, so that a list of them can be written down.
 fn make<A: Accumulator>(accumulator: &mut A, call: Call<A::Value>) -> Answer<A::Value>
     ensures result { (result, A.meaning accumulator.new) ≡ answered A.Value.neutral A.Value.joined (A.meaning accumulator.old) call }
     ensures spare { A.spare accumulator.new ≡ A.spare accumulator.old }
@@ -32,22 +28,15 @@ fn make<A: Accumulator>(accumulator: &mut A, call: Call<A::Value>) -> Answer<A::
             station,
             pass,
             value,
-        } => match accumulator.add(station, pass, value) {
-            Ok(()) => Answer::Done,
-            Err(refusal) => Answer::Refused(refusal),
-        },
-        Call::Total { pass } => match A::total(accumulator, pass) {
-            Ok(total) => Answer::Told(total),
-            Err(refusal) => Answer::Refused(refusal),
-        },
-        Call::MoveOn => match accumulator.move_on() {
-            Ok(()) => Answer::Done,
-            Err(refusal) => Answer::Refused(refusal),
-        },
+        } => accumulator.add(station, pass, value).map(|()| None),
+        Call::Total { pass } => A::total(accumulator, pass).map(Some),
+        Call::MoveOn => accumulator.move_on().map(|()| None),
     }
 }
 
 /// Makes the calls in turn, and hands out their answers. Where memory fails, no call is made.
+// Not one function with the board's: of a closure that changes what it holds a proof learns no answer, and a trait for both is longer than the loop.
+#[tactic(auto, using(crate::proofs::Runs::run_more, crate::proofs::Runs::run_all))]
 pub fn play<A: Accumulator>(
     accumulator: &mut A,
     calls: &[Call<A::Value>],
@@ -63,14 +52,16 @@ pub fn play<A: Accumulator>(
     Ok(answers)
 }
 
-/// Plays the same calls on two accumulators. Where they mean the same, so do their answers. Where memory fails, the right one is as it was.
+/// Plays the same calls on two accumulators. Where they mean the same, so do their answers. Where memory fails, the right one is as it was, and so is the left one unless it has been played.
 pub fn play_both<A: Accumulator, B: Accumulator<Value = A::Value>>(
     left: &mut A,
     right: &mut B,
     calls: &[Call<A::Value>],
     heap: Global,
 ) -> Result<(Vec<Answer<A::Value>>, Vec<Answer<A::Value>>), AllocError>
-    ensures { MatchResult result (λ answers. Interchangeable A.Value.neutral A.Value.joined (A.meaning left.old) (B.meaning right.old) calls.now (answers.0.items, A.meaning left.new) (answers.1.items, B.meaning right.new)) (λ _. B.meaning right.new ≡ B.meaning right.old) }
+    ensures result { MatchResult result (λ answers. Interchangeable A.Value.neutral A.Value.joined (A.meaning left.old) (B.meaning right.old) calls.now (answers.0.items, A.meaning left.new) (answers.1.items, B.meaning right.new)) (λ _. CutShort A.Value.neutral A.Value.joined (A.meaning left.old) (B.meaning right.old) calls.now (A.meaning left.new) (B.meaning right.new)) }
+    ensures left { A.spare left.new ≡ A.spare left.old }
+    ensures right { B.spare right.new ≡ B.spare right.old }
 {
     let left_answers = play(left, calls, heap)?;
     let right_answers = play(right, calls, heap)?;

@@ -19,6 +19,7 @@ pub struct Window {
 }
 
 /// Whether so many stations may be given cells.
+// A check and no conversion: a rule of the project has a trial that answers, and a making that asks what its trial accepted.
 pub(crate) fn try_limit(limit: usize) -> Result<(), Refusal>
     ensures { result ≡ verdict (eager_rules limit) }
 {
@@ -28,12 +29,20 @@ pub(crate) fn try_limit(limit: usize) -> Result<(), Refusal>
     Ok(())
 }
 
+/// The place of a pass among the kept ones.
+#[derive(Clone, Copy)]
+pub struct Slot {
+    pub(crate) index: usize,
+    ghost within: { index < kept },
+}
+
 /// The slot of a pass.
-pub(crate) fn slot_of(pass: u32) -> usize
-    ensures is { result ≡ slot_of pass }
-    ensures within { result < kept }
+pub(crate) fn slot_of(pass: u32) -> Slot
+    ensures { result.index ≡ slot_of pass }
 {
-    pass as usize % KEPT
+    Slot {
+        index: pass as usize % KEPT,
+    }
 }
 
 impl Window {

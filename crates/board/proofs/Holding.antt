@@ -1,16 +1,13 @@
 -- One seat more of a set of holders. Assumes nothing.
-use Rattle.std.proofs.Common.{◌≡◌, ℕ, zero, suc, ◌+◌, ◌*◌, ◌/◌, ◌%◌, ◌^◌, ◌<◌, ◌≤◌, Bool, true, false, cond, List, [], ◌∷◌, length, get_or, drop, Option, sym, refl, ap, ◌∙◌, mul_comm, pow-suc, arith, length-drop, pow_mono}
-use mir.Val.{bool_byte}
+use Rattle.std.proofs.Common.{◌≡◌, ℕ, zero, suc, ◌+◌, ◌*◌, ◌/◌, ◌%◌, ◌^◌, ◌<◌, ◌≤◌, Bool, true, false, cond, List, [], ◌∷◌, ◌++◌, length, get_or, take, Option, bit_or, sym, refl, ap, ◌∙◌, subst, mul_comm, pow-suc, arith}
+use Rattle.std.proofs.Math.Pow.{pow-lt}
 use native.Mathlib.Nat.{zero-div, div-div-eq-div-mul}
-use Rattle.std.proofs.lemmas.List.{at_drop_more}
+use Rattle.std.proofs.lemmas.List.{take_more, length-take-le}
+use Rattle.std.proofs.lemmas.Nat.{or_comm, or_shifted}
 use Rattle.phaser.specs.declared.view.View.{View}
 use Rattle.board.specs.Holders.{holds_back, holding, BitsOf}
 
-pub bit_of : (b : Bool) → bool_byte b ≡ cond b 1 0
-bit_of true = refl
-bit_of false = refl
-
-pub bit_le : (b : Bool) → cond b 1 0 ≤ 1
+bit_le : (b : Bool) → cond b 1 0 ≤ 1
 bit_le true = omega arith
 bit_le false = omega arith
 
@@ -19,17 +16,34 @@ holding_lt : (wp : ℕ) (seats : List (Option View)) → holding wp seats < 2 ^ 
 holding_lt wp [] = omega arith
 holding_lt wp (o ∷ os) = let h = holding_lt wp os in let b = bit_le (holds_back wp o) in omega (arith, pow-suc 2 (length os))
 
--- what is left fits where one seat more is to come
-pub room_for_one : (wp : ℕ) (seats : List (Option View)) (k : ℕ) → length seats ≤ 64 → 0 < k → holding wp (drop k seats) < 2 ^ 63
-room_for_one wp seats k few some =
-    let h = holding_lt wp (drop k seats) in
-    let l = length-drop k seats in
-    let fewer : length (drop k seats) ≤ 63 = omega arith in
-    let most : 2 ^ length (drop k seats) ≤ 2 ^ 63 = pow_mono fewer in
-    omega arith
+doubled : (b : Bool) (n : ℕ) → cond b (2 ^ suc n) 0 ≡ 2 * cond b (2 ^ n) 0
+doubled true n = omega (arith, pow-suc 2 n)
+doubled false n = omega arith
 
-pub holding_more : (wp : ℕ) (seats : List (Option View)) (k : ℕ) (d : Option View) (b : Bool) → k < length seats → b ≡ holds_back wp (get_or seats k d) → holding wp (drop k seats) ≡ cond b 1 0 + 2 * holding wp (drop (k + 1) seats)
-holding_more wp seats k d b h e = at_drop_more (holding wp) seats k d h ∙ ap (λ t. cond t 1 0 + 2 * holding wp (drop (k + 1) seats)) (sym e)
+first_bit : (b : Bool) → cond b 1 0 ≡ cond b (2 ^ 0) 0
+first_bit true = refl
+first_bit false = refl
+
+-- a further seat is the next bit
+holding_append : (wp : ℕ) (os : List (Option View)) (o : Option View) → holding wp (os ++ o ∷ []) ≡ holding wp os + cond (holds_back wp o) (2 ^ length os) 0
+holding_append wp [] o = omega (arith, first_bit (holds_back wp o))
+holding_append wp (p ∷ os) o = omega (arith, holding_append wp os o, doubled (holds_back wp o) (length os))
+
+module _ (wp : ℕ) (seats : List (Option View)) (k : ℕ) (within : k < length seats) where
+  pub holding_more : (d : Option View) → holding wp (take (k + 1) seats) ≡ holding wp (take k seats) + cond (holds_back wp (get_or seats k d)) (2 ^ k) 0
+  holding_more d =
+      ap (holding wp) (take_more seats k d within)
+      ∙ holding_append wp (take k seats) (get_or seats k d)
+      ∙ ap (λ n. holding wp (take k seats) + cond (holds_back wp (get_or seats k d)) (2 ^ n) 0) (length-take-le k seats (omega arith))
+
+  -- the bit of the seat at k is not among those before
+  pub bit_added : (set : ℕ) → set ≡ holding wp (take k seats) → k < 64 → bit_or set (1 * 2 ^ k % 2 ^ 64) ≡ set + 2 ^ k
+  bit_added set e few =
+      let long : length (take k seats) ≡ k = length-take-le k seats (omega arith) in
+      let low : set < 2 ^ k = subst (λ n. n < 2 ^ k) (sym e) (subst (λ n. holding wp (take k seats) < 2 ^ n) long (holding_lt wp (take k seats))) in
+      let fits : 2 ^ k < 2 ^ 64 = pow-lt few in
+      let one : 1 * 2 ^ k % 2 ^ 64 ≡ 1 * 2 ^ k = omega arith in
+      ap (bit_or set) one ∙ or_comm set (1 * 2 ^ k) ∙ or_shifted 1 k set low ∙ omega arith
 
 low_bit : (b : Bool) (n : ℕ) → (cond b 1 0 + 2 * n) / 1 % 2 ≡ cond b 1 0
 low_bit true n = omega arith

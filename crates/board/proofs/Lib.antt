@@ -1,4 +1,2 @@
 pub mod Runs
-pub mod Seats
-pub mod Sending
 pub mod Holding

@@ -1,18 +1,12 @@
 -- A board as a state. Assumes nothing.
-use Rattle.std.specs.Prelude.{ℕ, List, [], ◌∷◌, Ok, Err, Result}
+use Rattle.std.specs.Prelude.{ℕ, Ok, Err, Result}
 use Rattle.refusal.specs.declared.Refusal.{Refusal}
-use Rattle.refusal.specs.Rules.{Rule}
 use Rattle.phaser.specs.declared.Mode.{Mode}
 use Rattle.phaser.specs.declared.call.Answer.{Answer}
 use Rattle.accumulator.specs.Meaning.{Meaning}
 use Rattle.history.specs.State.{State}
-use Rattle.history.specs.Steps.{station_rule}
 use Rattle.board.specs.Entry.{first_seated}
 use Rattle.board.specs.declared.board.Board.{Board}
-
--- the rules of making a board
-abbrev pub board_rules : ℕ → List Rule
-board_rules first = station_rule first ∷ []
 
 module _ {V : Type 0} where
   -- the members, and what the accumulator means

@@ -11,12 +11,20 @@ use Rattle.accumulator.specs.Meaning.{answer_by}
 use Rattle.history.specs.State.{newly}
 use Rattle.history.specs.Steps.{view_of, station_rule, mode_rule, sign_turn, wait_turn, pass_rule}
 
+-- the rules of making a board by its first member
+abbrev pub board_rules : ℕ → List Rule
+board_rules first = station_rule first ∷ []
+
 -- the caller is a station and a member, and its mode may make the call
 abbrev pub entry_rules : List (Option View) → ℕ → Verb → List Rule
 entry_rules seats j verb = station_rule j ∷ rule (is_some (slice_index_or seats j None)) (NotMember j) ∷ mode_rule j (view_of (slice_index_or seats j None)) verb ∷ []
 
 abbrev pub entered : List (Option View) → ℕ → Verb → Result View Refusal
 entered seats j verb = answer_by (verdict (entry_rules seats j verb)) (view_of (slice_index_or seats j None))
+
+-- the pass after those counted
+abbrev pub next_pass : ℕ → ℕ → Result ℕ Refusal
+next_pass count j = answer_by (verdict (pass_rule j (count + 1) ∷ [])) (count + 1)
 
 -- the pass to sign or send for next, and the pass to observe next
 abbrev pub sign_rules : View → ℕ → List Rule

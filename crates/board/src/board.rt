@@ -4,16 +4,17 @@ ghost use Rattle.refusal.specs.Rules.{verdict};
 ghost use Rattle.phaser.specs.declared.call.Action.TheVariants.{Register, Signal, Wait, Drop, Send, Result as AskResult, View as AskView};
 ghost use Rattle.phaser.specs.declared.call.Answer.TheVariants.{Registered, Signaled, Observed, Dropped, Sent, Total, Viewed};
 ghost use Rattle.history.specs.Steps.{step, station_rule};
-ghost use Rattle.board.specs.Board.{board_state, as_answer, made_on, board_rules};
+ghost use Rattle.board.specs.Entry.{board_rules};
+ghost use Rattle.board.specs.Board.{board_state, as_answer, made_on};
 
-use crate::members::Members;
-use crate::turns::{in_turn, next_to_observe, next_to_sign};
+use crate::members::{Member, Members};
+use crate::station::Station;
+use crate::turns::in_turn;
 use accumulator::Accumulator;
 use phaser::table::brings;
 use phaser::view::View;
 use phaser::{Mode, Verb};
 use refusal::Refusal;
-use refusal::limits::STATIONS;
 
 /// A wait in mode SW that reaches the first kept pass plus this moves the accumulator on.
 pub const LEAD: u32 = 2;
@@ -30,9 +31,7 @@ impl<A: Accumulator> Board<A> {
     pub fn trial(first: u8) -> Result<(), Refusal>
         ensures { result ≡ verdict (board_rules first) }
     {
-        if first >= STATIONS {
-            return Err(Refusal::NoStation { station: first });
-        }
+        Station::try_from(first)?;
         Ok(())
     }
 
@@ -43,7 +42,7 @@ impl<A: Accumulator> Board<A> {
         ensures same { result.accumulator ≡ accumulator }
     {
         Board {
-            members: Members::alone(first, mode),
+            members: Members::alone(Station { number: first }, mode),
             accumulator,
         }
     }
@@ -53,20 +52,16 @@ impl<A: Accumulator> Board<A> {
         ensures result { (as_answer (λ c. Registered c.0 c.1) result, board_state A.meaning self.new) ≡ step A.Value.neutral A.Value.joined (board_state A.meaning self.old) caller (Register other mode) }
         ensures spare { A.spare self.new.accumulator ≡ A.spare self.old.accumulator }
     {
-        if caller >= STATIONS {
-            return Err(Refusal::NoStation { station: caller });
-        }
-        if other >= STATIONS {
-            return Err(Refusal::NoStation { station: other });
-        }
-        let view = self.members.enter(caller, Verb::Register)?;
-        if self.members.has(other) {
+        Station::try_from(caller)?;
+        let newcomer = Station::try_from(other)?;
+        let Member { view, .. } = self.members.enter(caller, Verb::Register)?;
+        if self.members.has(newcomer) {
             return Err(Refusal::AlreadyMember { other });
         }
         if !brings(view.mode, mode) {
             return Err(Refusal::ModeDenied { caller });
         }
-        self.members.put(other, Some(View { mode, ..view }));
+        self.members.put(newcomer, Some(View { mode, ..view }));
         Ok((view.sp, view.wp))
     }
 
@@ -75,9 +70,10 @@ impl<A: Accumulator> Board<A> {
         ensures result { (as_answer Signaled result, board_state A.meaning self.new) ≡ step A.Value.neutral A.Value.joined (board_state A.meaning self.old) caller Signal }
         ensures spare { A.spare self.new.accumulator ≡ A.spare self.old.accumulator }
     {
-        let view = self.members.enter(caller, Verb::Signal)?;
-        let sp = next_to_sign(view, caller)?;
-        self.members.put(caller, Some(View { sp, ..view }));
+        let member = self.members.enter(caller, Verb::Signal)?;
+        let sp = member.next_to_sign()?;
+        let seat = Some(View { sp, ..member.view });
+        self.members.put(member.station, seat);
         Ok(sp)
     }
 
@@ -86,15 +82,16 @@ impl<A: Accumulator> Board<A> {
         ensures result { (as_answer Observed result, board_state A.meaning self.new) ≡ step A.Value.neutral A.Value.joined (board_state A.meaning self.old) caller Wait }
         ensures spare { A.spare self.new.accumulator ≡ A.spare self.old.accumulator }
     {
-        let view = self.members.enter(caller, Verb::Wait)?;
-        let wp = next_to_observe(view, caller)?;
+        let member = self.members.enter(caller, Verb::Wait)?;
+        let wp = member.next_to_observe()?;
         if !self.members.all_signed(wp) {
             return Err(Refusal::NotSigned { caller });
         }
-        if in_turn(view.mode) && self.accumulator.first() + LEAD == wp {
+        if in_turn(member.view.mode) && self.accumulator.first() + LEAD == wp {
             self.accumulator.move_on()?;
         }
-        self.members.put(caller, Some(View { wp, ..view }));
+        let seat = Some(View { wp, ..member.view });
+        self.members.put(member.station, seat);
         Ok(wp)
     }
 
@@ -103,8 +100,8 @@ impl<A: Accumulator> Board<A> {
         ensures result { (as_answer (λ _. Dropped) result, board_state A.meaning self.new) ≡ step A.Value.neutral A.Value.joined (board_state A.meaning self.old) caller Drop }
         ensures spare { A.spare self.new.accumulator ≡ A.spare self.old.accumulator }
     {
-        self.members.enter(caller, Verb::Drop)?;
-        self.members.put(caller, None);
+        let member = self.members.enter(caller, Verb::Drop)?;
+        self.members.put(member.station, None);
         Ok(())
     }
 
@@ -113,8 +110,8 @@ impl<A: Accumulator> Board<A> {
         ensures result { (as_answer Sent result, board_state A.meaning self.new) ≡ step A.Value.neutral A.Value.joined (board_state A.meaning self.old) caller (Send value) }
         ensures spare { A.spare self.new.accumulator ≡ A.spare self.old.accumulator }
     {
-        let view = self.members.enter(caller, Verb::Send)?;
-        let pass = next_to_sign(view, caller)?;
+        let member = self.members.enter(caller, Verb::Send)?;
+        let pass = member.next_to_sign()?;
         self.accumulator.add(caller, pass, value)?;
         Ok(pass)
     }
@@ -123,7 +120,7 @@ impl<A: Accumulator> Board<A> {
     pub fn result(&self, caller: u8) -> Result<(u32, A::Value), Refusal>
         ensures { (as_answer (λ t. Total t.0 t.1) result, board_state A.meaning self.now) ≡ step A.Value.neutral A.Value.joined (board_state A.meaning self.now) caller AskResult }
     {
-        let view = self.members.enter(caller, Verb::Result)?;
+        let Member { view, .. } = self.members.enter(caller, Verb::Result)?;
         if view.wp == 0 {
             return Err(Refusal::NothingObserved { caller });
         }
@@ -135,6 +132,7 @@ impl<A: Accumulator> Board<A> {
     pub fn view(&self, caller: u8) -> Result<View, Refusal>
         ensures { (as_answer Viewed result, board_state A.meaning self.now) ≡ step A.Value.neutral A.Value.joined (board_state A.meaning self.now) caller AskView }
     {
-        self.members.enter(caller, Verb::View)
+        let member = self.members.enter(caller, Verb::View)?;
+        Ok(member.view)
     }
 }

@@ -7,6 +7,7 @@ ghost use Rattle.board.specs.Board.{board_state};
 ghost use Rattle.board.specs.Holders.{holds_back, holding, BitsOf, holders_of};
 
 use crate::board::Board;
+use crate::members::SEATS;
 use accumulator::Accumulator;
 use phaser::Verb;
 use phaser::view::View;
@@ -16,22 +17,18 @@ use refusal::Refusal;
 fn holds(seat: Option<View>, wp: u32) -> bool
     ensures { result ≡ holds_back wp seat }
 {
-    match seat {
-        Some(view) => view.mode.signs() && view.sp <= wp,
-        None => false,
-    }
+    seat.is_some_and(|view| view.mode.signs() && view.sp <= wp)
 }
 
 /// The set of the seats that hold back, the first in the lowest bit.
-fn held_by(seats: &[Option<View>], wp: u32) -> u64
-    requires { length seats.now ≤ stations }
+fn held_by(seats: &[Option<View>; SEATS], wp: u32) -> u64
     ensures { result ≡ holding wp seats.now }
 {
     let mut set = 0u64;
-    let mut k = seats.len();
-    while k > 0 {
-        k -= 1;
-        set = 2 * set + u64::from(holds(seats[k], wp));
+    for (k, seat) in seats.iter().enumerate() {
+        if holds(*seat, wp) {
+            set |= 1 << k;
+        }
     }
     set
 }
@@ -42,8 +39,8 @@ impl<A: Accumulator> Board<A> {
         ensures answer { result ≡ holders_of (board_state A.meaning self.now).members waiter }
         ensures bits { IfOk result (λ h. BitsOf h.0 (view_of (slice_index_or (board_state A.meaning self.now).members waiter None)).wp (board_state A.meaning self.now).members) }
     {
-        let view = self.members.enter(waiter, Verb::Wait)?;
-        let set = held_by(self.members.seats_of(), view.wp);
+        let member = self.members.enter(waiter, Verb::Wait)?;
+        let set = held_by(&self.members.seats, member.view.wp);
         Ok((set, set.count_ones()))
     }
 }

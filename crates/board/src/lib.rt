@@ -6,4 +6,5 @@ pub mod board;
 pub mod calls;
 pub mod holders;
 pub mod members;
+mod station;
 mod turns;

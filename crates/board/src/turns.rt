@@ -1,10 +1,10 @@
-//! Whose turn it is: what a view may sign, send and wait for.
+//! Whose turn it is: what a member may sign, send and wait for.
 ghost use Rattle.std.specs.Prelude.{◌≡◌};
 ghost use Rattle.history.specs.Limits.{is_sw};
-ghost use Rattle.board.specs.Entry.{next_signed, next_observed};
+ghost use Rattle.board.specs.Entry.{next_pass, next_signed, next_observed};
 
+use crate::members::Member;
 use phaser::Mode;
-use phaser::view::View;
 use refusal::Refusal;
 use refusal::limits::LAST_PASS;
 
@@ -15,28 +15,42 @@ pub(crate) fn in_turn(mode: Mode) -> bool
     mode.signs() && mode.waits()
 }
 
-/// The pass that the caller would sign, or send for, next.
-pub(crate) fn next_to_sign(view: View, caller: u8) -> Result<u32, Refusal>
-    ensures { result ≡ next_signed view caller }
-{
-    if in_turn(view.mode) && u64::from(view.sp) == u64::from(view.wp) + 1 {
-        return Err(Refusal::OutOfTurn { caller });
+impl Member {
+    /// The pass after those counted.
+    fn pass_after(self, count: u32) -> Result<u32, Refusal>
+        ensures { result ≡ next_pass count self.station.number }
+    {
+        if count >= LAST_PASS {
+            return Err(Refusal::PastLastPass {
+                caller: self.station.number,
+            });
+        }
+        Ok(count + 1)
     }
-    if view.sp >= LAST_PASS {
-        return Err(Refusal::PastLastPass { caller });
-    }
-    Ok(view.sp + 1)
-}
 
-/// The pass that the caller would observe next.
-pub(crate) fn next_to_observe(view: View, caller: u8) -> Result<u32, Refusal>
-    ensures { result ≡ next_observed view caller }
-{
-    if in_turn(view.mode) && view.sp == view.wp {
-        return Err(Refusal::OutOfTurn { caller });
+    /// The pass that it would sign, or send for, next.
+    pub(crate) fn next_to_sign(self) -> Result<u32, Refusal>
+        ensures { result ≡ next_signed self.view self.station.number }
+    {
+        let view = self.view;
+        if in_turn(view.mode) && u64::from(view.sp) == u64::from(view.wp) + 1 {
+            return Err(Refusal::OutOfTurn {
+                caller: self.station.number,
+            });
+        }
+        self.pass_after(view.sp)
     }
-    if view.wp >= LAST_PASS {
-        return Err(Refusal::PastLastPass { caller });
+
+    /// The pass that it would observe next.
+    pub(crate) fn next_to_observe(self) -> Result<u32, Refusal>
+        ensures { result ≡ next_observed self.view self.station.number }
+    {
+        let view = self.view;
+        if in_turn(view.mode) && view.sp == view.wp {
+            return Err(Refusal::OutOfTurn {
+                caller: self.station.number,
+            });
+        }
+        self.pass_after(view.wp)
     }
-    Ok(view.wp + 1)
 }

@@ -1,5 +1,6 @@
 -- What a call answers and leaves: its rules in the order in which they are tried, else its answer and the state after it. Assumes nothing.
 use Rattle.std.specs.Prelude.{ℕ, ◌+◌, Bool, true, cond, not, ◌&&◌, ◌||◌, List, [], ◌∷◌, ◌++◌, is_some, Some, None, Ok, Err, Option, Result, ◌==◌, nat_le, nat_lt, slice_set}
+use Rattle.std.specs.List.{list_all}
 use Rattle.refusal.specs.declared.Refusal.{Refusal}
 use Rattle.refusal.specs.declared.Refusal.TheVariants.{NoStation, NotMember, AlreadyMember, ModeDenied, OutOfTurn, PastLastPass, NotSigned, NothingObserved}
 use Rattle.refusal.specs.Limits.{stations, last_pass}
@@ -31,8 +32,7 @@ has_signed n None = true
 has_signed n (Some w) = not (signs w.mode) || nat_le n w.sp
 
 abbrev pub all_signed : ℕ → List (Option View) → Bool
-all_signed n [] = true
-all_signed n (o ∷ os) = has_signed n o && all_signed n os
+all_signed n seats = list_all (has_signed n) seats
 
 -- ---- the rules of a call by station j with the view v, in the order in which they are tried
 

@@ -4,6 +4,7 @@ use Rattle.std.specs.List.Sorted.{IsPermutation}
 use Rattle.std.specs.List.{swap}
 use Rattle.std.proofs.lemmas.List.{set_comm, set-get_or, set-set}
 use Rattle.std.proofs.lemmas.List.Sorted.{IsPermutation-keeps}
+use Rattle.std.proofs.lemmas.List.Sums.{fold-append}
 use Rattle.std.proofs.lemmas.Bool.{cases_eq}
 use Rattle.joining.specs.Every.{every}
 use Rattle.joining.specs.Laws.{CommutativeMonoid, JoiningLaws, joining_of}
@@ -27,11 +28,7 @@ module _ {V : Type 0} {neutral : V} {join : V → V → V} (laws : CommutativeMo
   joining_cons x xs = ap (λ v. fold join v xs) (laws.left x) ∙ joining_onto x xs
 
   pub joining_append : (xs ys : List V) → joining_of neutral join (xs ++ ys) ≡ join (joining_of neutral join xs) (joining_of neutral join ys)
-  joining_append [] ys = sym (laws.left (joining_of neutral join ys))
-  joining_append (x ∷ xs) ys =
-      joining_cons x (xs ++ ys) ∙ ap (join x) (joining_append xs ys)
-      ∙ sym (laws.assoc x (joining_of neutral join xs) (joining_of neutral join ys))
-      ∙ ap (λ v. join v (joining_of neutral join ys)) (sym (joining_cons x xs))
+  joining_append xs ys = fold-append join neutral xs ys ∙ joining_onto (joining_of neutral join xs) ys
 
   pub joining_insert : (xs : List V) (x : V) (ys : List V) → joining_of neutral join (xs ++ (x ∷ ys)) ≡ join x (joining_of neutral join (xs ++ ys))
   joining_insert xs x ys =

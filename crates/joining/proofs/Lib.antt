@@ -1,2 +1,3 @@
 pub mod Joinings
 pub mod Steps
+pub mod Strides

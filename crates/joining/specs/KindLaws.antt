@@ -1,14 +1,13 @@
 -- Each kind is a commutative monoid. Assumes nothing.
-use Rattle.std.specs.Prelude.{◌≡◌, ℕ, ◌/◌, ◌%◌, max, Bool, true, false, cond, ℤ, bit_or, int_lt, refl}
+use Rattle.std.specs.Prelude.{◌≡◌, ℕ, Bool, true, false, cond, ℤ, int_lt}
 use Rattle.std.proofs.Common.{ap, ap₂, ◌∙◌, arith}
-use Rattle.std.proofs.Math.Arith.{bin_ind}
-use Rattle.std.specs.Int.Bits.{or_step, xor_assoc}
-use Rattle.std.proofs.lemmas.Nat.{or_comm, xor_comm}
 use Rattle.std.specs.Int.{int_min, int_max}
 use Rattle.std.proofs.lemmas.Int.{ints, clamps}
 use Rattle.joining.specs.Deviation.{InRange, largest, smallest, nearest}
+use Rattle.joining.specs.declared.kinds.Bits.{Bits}
 use Rattle.joining.specs.Laws.{CommutativeMonoid}
-use Rattle.joining.specs.Kinds.{no_length, longer, marks_of, no_marks, either, toggles_of, no_toggles, toggled, extremes_of, no_extremes, wider, no_record, side_by_side}
+use Rattle.joining.specs.Kinds.{no_length, longer, bits_of, bitwise, extremes_of, no_extremes, wider, no_record, side_by_side}
+use Rattle.joining.specs.BitLaws.{or_laws}
 use Rattle.joining.specs.Same.{same_length, same_extremes, nearest_itself}
 
 pub length_laws : CommutativeMonoid no_length longer
@@ -18,32 +17,11 @@ length_laws = record {
   left = λ x. same_length (longer no_length x) x (omega arith);
 }
 
--- the digits of an inclusive or
-or_high : (a b : ℕ) → bit_or a b / 2 ≡ bit_or (a / 2) (b / 2)
-or_high a b = omega (arith, or_step a b)
-
-or_low : (a b : ℕ) → bit_or a b % 2 ≡ max (a % 2) (b % 2)
-or_low a b = omega (arith, or_step a b)
-
-or_assoc : (a b c : ℕ) → bit_or (bit_or a b) c ≡ bit_or a (bit_or b c)
-or_assoc =
-    bin_ind (λ (n : ℕ). (b c : ℕ) → bit_or (bit_or n b) c ≡ bit_or n (bit_or b c)) (λ b c. refl)
-    (λ n ih b c.
-    let high : bit_or (bit_or n b / 2) (c / 2) ≡ bit_or (n / 2) (bit_or b c / 2) = simp or_high (ih (b / 2) (c / 2)) in
-    omega (arith, high, or_step (bit_or n b) c, or_step n (bit_or b c), or_low n b, or_low b c))
-
-pub marks_laws : CommutativeMonoid no_marks either
-marks_laws = record {
-  assoc = λ x y z. ap marks_of (or_assoc x.bits y.bits z.bits);
-  comm = λ x y. ap marks_of (or_comm x.bits y.bits);
-  left = λ x. refl;
-}
-
-pub toggles_laws : CommutativeMonoid no_toggles toggled
-toggles_laws = record {
-  assoc = λ x y z. ap toggles_of (xor_assoc x.bits y.bits z.bits);
-  comm = λ x y. ap toggles_of (xor_comm x.bits y.bits);
-  left = λ x. refl;
+pub bits_laws : {R : Type 0} {operation : ℕ → ℕ → ℕ} → CommutativeMonoid 0 operation → CommutativeMonoid {V = Bits R} (bits_of 0) (bitwise operation)
+bits_laws laws = record {
+  assoc = λ x y z. ap bits_of (laws.assoc x.bits y.bits z.bits);
+  comm = λ x y. ap bits_of (laws.comm x.bits y.bits);
+  left = λ x. ap bits_of (laws.left x.bits);
 }
 
 -- of two numbers in range the chosen one is in range, so its own nearest
@@ -75,16 +53,16 @@ record_laws = record {
   assoc = λ x y z i. record {
     length = length_laws.assoc x.length y.length z.length i;
     extremes = extremes_laws.assoc x.extremes y.extremes z.extremes i;
-    marks = marks_laws.assoc x.marks y.marks z.marks i;
+    marks = (bits_laws or_laws).assoc x.marks y.marks z.marks i;
   };
   comm = λ x y i. record {
     length = length_laws.comm x.length y.length i;
     extremes = extremes_laws.comm x.extremes y.extremes i;
-    marks = marks_laws.comm x.marks y.marks i;
+    marks = (bits_laws or_laws).comm x.marks y.marks i;
   };
   left = λ x i. record {
     length = length_laws.left x.length i;
     extremes = extremes_laws.left x.extremes i;
-    marks = marks_laws.left x.marks i;
+    marks = (bits_laws or_laws).left x.marks i;
   };
 }

@@ -1,12 +1,11 @@
 -- Each kind: its values from plain numbers, its neutral value and its join. Assumes nothing.
 -- A length and extremes are made of any number: one within the width is kept, and one past it is brought in.
-use Rattle.std.specs.Prelude.{ℕ, ◌+◌, ◌%◌, ◌^◌, ◌<◌, ℤ, bit_or, bit_xor}
+use Rattle.std.specs.Prelude.{ℕ, ◌+◌, ◌%◌, ◌^◌, ◌<◌, ℤ, bit_or}
 use Rattle.std.proofs.Common.{arith}
 use Rattle.std.specs.Int.{int_min, int_max}
 use Rattle.joining.specs.Deviation.{largest, smallest, nearest, nearest_fits}
 use Rattle.joining.specs.declared.kinds.Length.{Length}
-use Rattle.joining.specs.declared.kinds.Marks.{Marks}
-use Rattle.joining.specs.declared.kinds.Toggles.{Toggles}
+use Rattle.joining.specs.declared.kinds.Bits.{Bits}
 use Rattle.joining.specs.declared.kinds.Extremes.{Extremes}
 use Rattle.joining.specs.declared.kinds.CoilRecord.{CoilRecord}
 
@@ -24,27 +23,13 @@ no_length = length_of 0
 abbrev pub longer : Length → Length → Length
 longer x y = length_of ((x.run + y.run) % 2 ^ 64)
 
--- ---- marks: inclusive or
+-- ---- bits: joined by a rule, as marks by inclusive or and toggles by exclusive or
 
-abbrev pub marks_of : ℕ → Marks
-marks_of n = record { bits = n }
+abbrev pub bits_of : {R : Type 0} → ℕ → Bits R
+bits_of n = record { bits = n; rule = record {} }
 
-abbrev pub no_marks : Marks
-no_marks = marks_of 0
-
-abbrev pub either : Marks → Marks → Marks
-either x y = marks_of (bit_or x.bits y.bits)
-
--- ---- toggles: exclusive or
-
-abbrev pub toggles_of : ℕ → Toggles
-toggles_of n = record { bits = n }
-
-abbrev pub no_toggles : Toggles
-no_toggles = toggles_of 0
-
-abbrev pub toggled : Toggles → Toggles → Toggles
-toggled x y = toggles_of (bit_xor x.bits y.bits)
+abbrev pub bitwise : {R : Type 0} → (ℕ → ℕ → ℕ) → Bits R → Bits R → Bits R
+bitwise operation x y = bits_of (operation x.bits y.bits)
 
 -- ---- extremes: the smaller and the larger
 
@@ -61,10 +46,10 @@ wider x y = extremes_of (int_min x.thinnest y.thinnest) (int_max x.thickest y.th
 
 -- one reading: its deviation is both extremes
 abbrev pub reading_of : ℕ → ℤ → ℕ → CoilRecord
-reading_of length deviation marks = record { length = length_of length; extremes = extremes_of deviation deviation; marks = marks_of marks }
+reading_of length deviation marks = record { length = length_of length; extremes = extremes_of deviation deviation; marks = bits_of marks }
 
 abbrev pub no_record : CoilRecord
-no_record = record { length = no_length; extremes = no_extremes; marks = no_marks }
+no_record = record { length = no_length; extremes = no_extremes; marks = bits_of 0 }
 
 abbrev pub side_by_side : CoilRecord → CoilRecord → CoilRecord
-side_by_side x y = record { length = longer x.length y.length; extremes = wider x.extremes y.extremes; marks = either x.marks y.marks }
+side_by_side x y = record { length = longer x.length y.length; extremes = wider x.extremes y.extremes; marks = bitwise bit_or x.marks y.marks }

@@ -27,5 +27,5 @@ pub same_record : (x y : CoilRecord) → x.length.run ≡ y.length.run → x.ext
 same_record x y run thin thick bits = λ i. record {
   length = same_length x.length y.length run i;
   extremes = same_extremes x.extremes y.extremes thin thick i;
-  marks = record { bits = bits i };
+  marks = record { bits = bits i; rule = record {} };
 }

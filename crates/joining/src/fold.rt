@@ -14,9 +14,9 @@ pub fn joining_laws<V: Joining>()
 pub fn join_every<V: Joining + Copy>(cells: &[V], start: usize, step: usize) -> V
     ensures { result ≡ joining_of V.neutral V.joined (every start step cells.now) }
 {
-    let mut total = V::neutral();
-    for i in (start..cells.len()).step_by(step.max(1)) {
-        total = total.join(cells[i]);
-    }
-    total
+    cells
+        .iter()
+        .skip(start)
+        .step_by(step.max(1))
+        .fold(V::neutral(), |total, cell| total.join(*cell))
 }

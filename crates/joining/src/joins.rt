@@ -1,24 +1,20 @@
 //! How each kind is joined.
 ghost use Rattle.joining.specs.Kinds.{no_length, longer};
-ghost use Rattle.joining.specs.Kinds.{no_marks, either};
-ghost use Rattle.joining.specs.Kinds.{no_toggles, toggled};
+ghost use Rattle.joining.specs.Kinds.{bits_of, bitwise};
 ghost use Rattle.joining.specs.Kinds.{no_extremes, wider};
 ghost use Rattle.joining.specs.Kinds.{no_record, side_by_side};
-ghost use Rattle.joining.specs.KindLaws.{length_laws, marks_laws, toggles_laws, extremes_laws, record_laws};
+ghost use Rattle.joining.specs.KindLaws.{length_laws, bits_laws, extremes_laws, record_laws};
 
 use crate::Joining;
-use crate::kinds::{CoilRecord, Deviation, Extremes, Length, Marks, Toggles};
+use crate::bitwise::Bitwise;
+use crate::kinds::{Bits, CoilRecord, Deviation, Extremes, Length, Marks};
 
 impl Joining for Length {
     ghost neutral = { no_length };
 
     ghost joined = { longer };
 
-    ghost assoc = { length_laws.assoc };
-
-    ghost comm = { length_laws.comm };
-
-    ghost left = { length_laws.left };
+    ghost laws = { length_laws };
 
     fn neutral() -> Length {
         Length::new(0)
@@ -29,43 +25,19 @@ impl Joining for Length {
     }
 }
 
-impl Joining for Marks {
-    ghost neutral = { no_marks };
+impl<R: Bitwise> Joining for Bits<R> {
+    ghost neutral = { bits_of 0 };
 
-    ghost joined = { either };
+    ghost joined = { bitwise R.operation };
 
-    ghost assoc = { marks_laws.assoc };
+    ghost laws = { bits_laws R.laws };
 
-    ghost comm = { marks_laws.comm };
-
-    ghost left = { marks_laws.left };
-
-    fn neutral() -> Marks {
-        Marks::new(0)
+    fn neutral() -> Bits<R> {
+        Bits::new(0)
     }
 
-    fn join(self, other: Marks) -> Marks {
-        Marks::new(self.bits | other.bits)
-    }
-}
-
-impl Joining for Toggles {
-    ghost neutral = { no_toggles };
-
-    ghost joined = { toggled };
-
-    ghost assoc = { toggles_laws.assoc };
-
-    ghost comm = { toggles_laws.comm };
-
-    ghost left = { toggles_laws.left };
-
-    fn neutral() -> Toggles {
-        Toggles::new(0)
-    }
-
-    fn join(self, other: Toggles) -> Toggles {
-        Toggles::new(self.bits ^ other.bits)
+    fn join(self, other: Bits<R>) -> Bits<R> {
+        Bits::new(R::operation(self.bits, other.bits))
     }
 }
 
@@ -74,11 +46,7 @@ impl Joining for Extremes {
 
     ghost joined = { wider };
 
-    ghost assoc = { extremes_laws.assoc };
-
-    ghost comm = { extremes_laws.comm };
-
-    ghost left = { extremes_laws.left };
+    ghost laws = { extremes_laws };
 
     fn neutral() -> Extremes {
         Extremes::new(Deviation::MAX, Deviation::MIN)
@@ -97,11 +65,7 @@ impl Joining for CoilRecord {
 
     ghost joined = { side_by_side };
 
-    ghost assoc = { record_laws.assoc };
-
-    ghost comm = { record_laws.comm };
-
-    ghost left = { record_laws.left };
+    ghost laws = { record_laws };
 
     fn neutral() -> CoilRecord {
         CoilRecord {

@@ -2,6 +2,9 @@
 ghost use Rattle.std.specs.Prelude.{◌^◌, ◌<◌};
 ghost use Rattle.joining.specs.Deviation.{InRange};
 
+use crate::bitwise::{Exclusive, Inclusive};
+use std::marker::PhantomData;
+
 /// How far a thickness lies from the wanted one, in micrometres.
 pub type Deviation = i16;
 
@@ -12,17 +15,19 @@ pub struct Length {
     ghost fits: { run < 2 ^ 64 },
 }
 
-/// A set of 16 marks: one that any value has stays.
-#[derive(Clone, Copy, PartialEq, Eq, Debug)]
-pub struct Marks {
+/// A set of 16 bits, which is joined by the rule `R`.
+#[derive_where(Clone, Copy, PartialEq, Eq, Debug)]
+pub struct Bits<R> {
     pub bits: u16,
+    #[derive_where(skip)]
+    pub(crate) rule: PhantomData<R>,
 }
 
+/// A set of 16 marks: one that any value has stays.
+pub type Marks = Bits<Inclusive>;
+
 /// A set of 16 toggles: one that two values have is gone.
-#[derive(Clone, Copy, PartialEq, Eq, Debug)]
-pub struct Toggles {
-    pub bits: u16,
-}
+pub type Toggles = Bits<Exclusive>;
 
 /// The smallest and the largest of some deviations. Of none, the smallest is the largest number, and the reverse.
 #[derive(Clone, Copy, PartialEq, Eq, Debug)]

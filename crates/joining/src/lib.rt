@@ -3,13 +3,15 @@
 #![tactic(auto)]
 
 ghost use Rattle.std.specs.Prelude.{◌≡◌};
+ghost use Rattle.joining.specs.Laws.{CommutativeMonoid};
 
+pub mod bitwise;
 pub mod fold;
 pub mod joins;
 pub mod kinds;
 pub mod values;
 
-/// A commutative monoid: a neutral value, and a join that keeps three laws.
+/// A commutative monoid: a neutral value, and a join that keeps the three laws.
 pub trait Joining: Sized {
     ghost neutral: { Self };
 
@@ -23,11 +25,7 @@ pub trait Joining: Sized {
     fn join(self, other: Self) -> Self
         ensures { result ≡ joined self other };
 
-    ghost assoc: { (x y z : Self) → joined (joined x y) z ≡ joined x (joined y z) };
-
-    ghost comm: { (x y : Self) → joined x y ≡ joined y x };
-
-    ghost left: { (x : Self) → joined neutral x ≡ x };
+    ghost laws: { CommutativeMonoid neutral joined };
 }
 
 #[cfg(test)]

@@ -1,8 +1,9 @@
 //! Values of each kind from plain numbers.
 ghost use Rattle.std.specs.Prelude.{◌≡◌};
-ghost use Rattle.joining.specs.Kinds.{length_of, marks_of, toggles_of, extremes_of, reading_of};
+ghost use Rattle.joining.specs.Kinds.{length_of, bits_of, extremes_of, reading_of};
 
-use crate::kinds::{CoilRecord, Deviation, Extremes, Length, Marks, Toggles};
+use crate::kinds::{Bits, CoilRecord, Deviation, Extremes, Length, Marks};
+use std::marker::PhantomData;
 
 impl Length {
     /// The length that was run.
@@ -14,21 +15,15 @@ impl Length {
     }
 }
 
-impl Marks {
-    /// The marks whose bits are set.
-    pub fn new(bits: u16) -> Marks
-        ensures { result ≡ marks_of bits }
+impl<R> Bits<R> {
+    /// The set that has these bits.
+    pub fn new(bits: u16) -> Bits<R>
+        ensures { result ≡ bits_of bits }
     {
-        Marks { bits }
-    }
-}
-
-impl Toggles {
-    /// The toggles whose bits are set.
-    pub fn new(bits: u16) -> Toggles
-        ensures { result ≡ toggles_of bits }
-    {
-        Toggles { bits }
+        Bits {
+            bits,
+            rule: PhantomData,
+        }
     }
 }
 

@@ -8,6 +8,7 @@ ghost use Rattle.std.specs.Prelude.{Some};
 use std::fmt;
 
 pub mod call;
+pub mod codes;
 pub mod table;
 pub mod view;
 
@@ -38,11 +39,11 @@ impl fmt::Display for Mode {
     ghost output = { λ m. Some (mode_text m) };
 
     fn fmt<W: fmt::Write>(&self, f: &mut fmt::Formatter<W>) -> fmt::Result {
-        match *self {
-            Mode::SignalWait => f.write_str("SW"),
-            Mode::SignalOnly => f.write_str("SO"),
-            Mode::WaitOnly => f.write_str("WO"),
-        }
+        f.write_str(match self {
+            Mode::SignalWait => "SW",
+            Mode::SignalOnly => "SO",
+            Mode::WaitOnly => "WO",
+        })
     }
 }
 
@@ -50,14 +51,14 @@ impl fmt::Display for Verb {
     ghost output = { λ v. Some (verb_text v) };
 
     fn fmt<W: fmt::Write>(&self, f: &mut fmt::Formatter<W>) -> fmt::Result {
-        match *self {
-            Verb::Register => f.write_str("register"),
-            Verb::Signal => f.write_str("signal"),
-            Verb::Wait => f.write_str("wait"),
-            Verb::Drop => f.write_str("drop"),
-            Verb::Send => f.write_str("send"),
-            Verb::Result => f.write_str("result"),
-            Verb::View => f.write_str("view"),
-        }
+        f.write_str(match self {
+            Verb::Register => "register",
+            Verb::Signal => "signal",
+            Verb::Wait => "wait",
+            Verb::Drop => "drop",
+            Verb::Send => "send",
+            Verb::Result => "result",
+            Verb::View => "view",
+        })
     }
 }

@@ -5,7 +5,7 @@ ghost use Rattle.phaser.specs.Views.{signs, waits, before};
 use crate::Mode;
 
 /// What a member knows: its mode, the passes that it has signed (sp) and those that it has observed (wp).
-#[derive(Clone, Copy, Debug, PartialEq)]
+#[derive(Clone, Copy, Debug, PartialEq, Eq)]
 pub struct View {
     pub mode: Mode,
     pub sp: u32,
@@ -17,20 +17,14 @@ impl Mode {
     pub fn signs(self) -> bool
         ensures { result ≡ signs self }
     {
-        match self {
-            Mode::SignalWait | Mode::SignalOnly => true,
-            Mode::WaitOnly => false,
-        }
+        matches!(self, Mode::SignalWait | Mode::SignalOnly)
     }
 
     /// Whether it observes passes: SW and WO.
     pub fn waits(self) -> bool
         ensures { result ≡ waits self }
     {
-        match self {
-            Mode::SignalWait | Mode::WaitOnly => true,
-            Mode::SignalOnly => false,
-        }
+        matches!(self, Mode::SignalWait | Mode::WaitOnly)
     }
 }
 
@@ -44,6 +38,7 @@ impl View {
 }
 
 /// Whether the first view happened before the second, and the second before the first.
+// Two yes-or-no answers, as a rule of the project has it: both may be yes, so this is no ordering.
 pub fn compare(first: &View, second: &View) -> (bool, bool)
     ensures forward { result.0 ≡ before first.now second.now }
     ensures backward { result.1 ≡ before second.now first.now }

@@ -1,4 +1,3 @@
 pub mod Played
-pub mod Called
 pub mod Numbered
 pub mod Compared

@@ -6,35 +6,47 @@ use crate::play::{play_eagerly, play_lazily};
 use crate::same::same_answers;
 use joining::kinds::{CoilRecord, Extremes, Length, Marks};
 use phaser::Mode;
-use phaser::call::Answer;
+use phaser::call::{Action, Answer, Call};
 use phaser::view::View;
 use refusal::Refusal;
+use shiftlog::form::VALUE_LEN;
 use shiftlog::log::Log;
 use shiftlog::step::Step;
 use std::test::Fail;
 
+/// The step of a station.
+fn by(caller: u8, action: Action<&[u8; VALUE_LEN]>) -> Step<'_> {
+    Call { caller, action }
+}
+
 #[test]
 fn the_nine_steps_are_answered_alike(rt: HostRuntime) -> Result<(), Fail> {
     let steps = [
-        Step::Register {
-            station: 0,
-            other: 1,
-            mode: Mode::SignalWait,
-        },
-        Step::Send {
-            station: 0,
-            value: &[232, 3, 0, 0, 253, 255, 0, 0],
-        },
-        Step::Signal { station: 0 },
-        Step::Wait { station: 0 },
-        Step::Send {
-            station: 1,
-            value: &[244, 1, 0, 0, 4, 0, 2, 0],
-        },
-        Step::Drop { station: 1 },
-        Step::Wait { station: 0 },
-        Step::Result { station: 0 },
-        Step::View { station: 7 },
+        by(
+            0,
+            Action::Register {
+                other: 1,
+                mode: Mode::SignalWait,
+            },
+        ),
+        by(
+            0,
+            Action::Send {
+                value: &[232, 3, 0, 0, 253, 255, 0, 0],
+            },
+        ),
+        by(0, Action::Signal),
+        by(0, Action::Wait),
+        by(
+            1,
+            Action::Send {
+                value: &[244, 1, 0, 0, 4, 0, 2, 0],
+            },
+        ),
+        by(1, Action::Drop),
+        by(0, Action::Wait),
+        by(0, Action::Result),
+        by(7, Action::View),
     ];
     let total = CoilRecord {
         length: Length::new(1500),

@@ -62,6 +62,7 @@ pub enum Refusal {
 
 impl Refusal {
     /// The number by which the refusal is printed.
+    // A number, since a rule of the project prints it.
     pub fn number(&self) -> u8
         ensures { result ≡ number self.now }
     {

@@ -3,13 +3,24 @@
 #![tactic(auto)]
 
 ghost use Rattle.std.specs.Prelude.{◌≡◌, map, IfOk, string_bytes};
+ghost use Rattle.phaser.specs.Calls.{call_with};
+ghost use Rattle.shiftlog.specs.Reading.{reading_of};
 ghost use Rattle.shiftlog.specs.Record.{entry_of};
 ghost use Rattle.report.specs.Report.{listing_text, refusal_text, report_text};
 
+use phaser::call::Call;
 use refusal::Refusal;
 use shiftlog::log::Log;
+use shiftlog::reading::Reading;
 use shiftlog::step::Step;
 use std::alloc::{AllocError, Global};
+
+/// The step with what its value says.
+fn read(step: Step<'_>) -> Call<Reading>
+    ensures { result ≡ call_with (λ value. reading_of value.now) step.entry }
+{
+    step.map(|value| Reading::from(value))
+}
 
 /// A line for each step, numbered from 1, and a last line with their count.
 fn listing(heap: Global, steps: &[Step<'_>]) -> Result<String, AllocError>
@@ -18,14 +29,11 @@ fn listing(heap: Global, steps: &[Step<'_>]) -> Result<String, AllocError>
     let mut text = String::new(heap);
     for (i, step) in steps.iter().enumerate() {
         let number = i + 1;
-        if writeln!(text, "{number} {step}").is_err() {
-            return Err(AllocError);
-        }
+        let step = read(*step);
+        writeln!(text, "{number} {step}")?;
     }
     let count = steps.len();
-    if writeln!(text, "{count}").is_err() {
-        return Err(AllocError);
-    }
+    writeln!(text, "{count}")?;
     Ok(text)
 }
 

@@ -1,10 +1,7 @@
-use Rattle.std.proofs.Common.{◌≡◌, ◌≤◌, length, drop}
+use Rattle.std.proofs.Common.{◌≡◌, take}
 use Rattle.board.specs.Holders.{holding}
 use Rattle.board.proofs.holders.held_by.Given as goal
 
--- the set of the seats from k on
+-- the set of the first k seats
 abbrev pub invariant-loop-k : goal.invariant-loop-k
-invariant-loop-k l = (l.set ≡ holding l.wp (drop l.k l.seats)) × (l.k ≤ length l.seats)
-
-abbrev pub decreases-loop-k : goal.decreases-loop-k
-decreases-loop-k l = l.k
+invariant-loop-k l = l.set ≡ holding l.wp (take l.k l.seats)

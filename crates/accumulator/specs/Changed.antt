@@ -1,0 +1,8 @@
+-- What a call does to the totals of the slots. Assumes nothing.
+use Rattle.std.specs.Prelude.{◌≡◌, ◌≢◌, ℕ, ◌<◌}
+use Rattle.accumulator.specs.Window.{kept}
+
+-- s before and t after: the slot has the total x, and each other one what it had
+pub record OneChanged {V : Type 0} (s t : ℕ → V) (slot : ℕ) (x : V) : Type 0 where
+  pub here : t slot ≡ x
+  pub other : (r : ℕ) → r < kept → r ≢ slot → t r ≡ s r

@@ -1,0 +1,40 @@
+//! What keeps a total for each slot.
+ghost use Rattle.std.specs.Prelude.{◌≡◌, ℕ, ◌<◌, ◌≤◌};
+ghost use Rattle.accumulator.specs.Meaning.{Spare};
+ghost use Rattle.accumulator.specs.Changed.{OneChanged};
+
+use crate::window::Slot;
+use joining::Joining;
+
+/// Keeps a total for each of the `KEPT` slots, of the values of the stations below a limit.
+pub trait Slots {
+    type Value: Joining + Copy;
+
+    /// How many stations have a place.
+    ghost places: { Self → ℕ };
+
+    /// The total of a slot, by the limit.
+    ghost total: { Self → ℕ → ℕ → Self.Value };
+
+    /// The cells that are lent, and those that no call writes, by the limit.
+    ghost spare: { Self → ℕ → Spare Self.Value };
+
+    /// Joins a station's value to the total of a slot.
+    fn join(&mut self, station: u8, slot: Slot, value: Self::Value)
+        requires { station < places self.old }
+        ensures total { (limit : ℕ) → station < limit → limit ≤ places self.old → OneChanged (total self.old limit) (total self.new limit) slot.index (Self.Value.joined (total self.old limit slot.index) value) }
+        ensures places { places self.new ≡ places self.old }
+        ensures spare { (limit : ℕ) → station < limit → spare self.new limit ≡ spare self.old limit };
+
+    /// The total of a slot.
+    fn total(&self, limit: u8, slot: Slot) -> Self::Value
+        requires { limit ≤ places self.now }
+        ensures { result ≡ total self.now limit slot.index };
+
+    /// Makes the total of a slot neutral.
+    fn wipe(&mut self, limit: u8, slot: Slot)
+        requires { limit ≤ places self.old }
+        ensures total { OneChanged (total self.old limit) (total self.new limit) slot.index Self.Value.neutral }
+        ensures places { places self.new ≡ places self.old }
+        ensures spare { spare self.new limit ≡ spare self.old limit };
+}
