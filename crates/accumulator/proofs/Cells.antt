@@ -40,7 +40,7 @@ module _ {V : Type 0} where
   module _ {neutral : V} {join : V → V → V} (laws : CommutativeMonoid neutral join) where
     joining_neutral : (ys : List V) → ((k : ℕ) → get_or ys k neutral ≡ neutral) → joining_of neutral join ys ≡ neutral
     joining_neutral [] all = refl
-    joining_neutral (y ∷ ys) all = joining_cons laws y ys ∙ ap (λ v. join v (joining_of neutral join ys)) (all 0) ∙ laws.left (joining_of neutral join ys) ∙ joining_neutral ys (λ k. all (suc k))
+    joining_neutral (y ∷ ys) all = joining_cons laws y ys ∙ ap (λ v. join v (joining_of neutral join ys)) (all 0) ∙ laws.0.left (joining_of neutral join ys) ∙ joining_neutral ys (λ k. all (suc k))
 
     module _ (xs : List V) (limit slot : ℕ) (within : slot < kept) (room : kept * limit ≤ length xs) where
       -- a value joined to a station's cell is joined to its slot's total

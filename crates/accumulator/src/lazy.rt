@@ -14,7 +14,7 @@ use joining::fold::join_every;
 use refusal::Refusal;
 
 /// Station s has cell `KEPT` * s + r for slot r. The cells are lent, and further ones are left as they are.
-// By number in one slice: a rule of the project lends the cells so, with further ones behind them.
+// By number in one slice: a rule of the project (docs/JOININGS.md), which lends the cells so, with further ones behind them.
 #[derive(Drop)]
 pub struct Cells<'a, V> {
     cells: &'a mut [V],

@@ -35,7 +35,7 @@ fn make<A: Accumulator>(accumulator: &mut A, call: Call<A::Value>) -> Answer<A::
 }
 
 /// Makes the calls in turn, and hands out their answers. Where memory fails, no call is made.
-// Not one function with the board's: of a closure that changes what it holds a proof learns no answer, and a trait for both is longer than the loop.
+// Not one function with the board's: a trait for both, with its relation and what leads from there to each contract, is longer than the two loops.
 #[tactic(auto, using(crate::proofs::Runs::run_more, crate::proofs::Runs::run_all))]
 pub fn play<A: Accumulator>(
     accumulator: &mut A,

@@ -19,7 +19,7 @@ pub struct Window {
 }
 
 /// Whether so many stations may be given cells.
-// A check and no conversion: a rule of the project has a trial that answers, and a making that asks what its trial accepted.
+// A check and no conversion: a rule of the project (docs/JOININGS.md) has a trial that answers, and a making that asks what its trial accepted.
 pub(crate) fn try_limit(limit: usize) -> Result<(), Refusal>
     ensures { result ≡ verdict (eager_rules limit) }
 {
@@ -92,6 +92,7 @@ impl Window {
         if self.first >= LAST_PASS {
             return Err(Refusal::LastPassKept { first: self.first });
         }
+        // Both fields, since the checker refuses the rest of a struct that has a ghost field.
         Ok(Window {
             limit: self.limit,
             first: self.first + 1,

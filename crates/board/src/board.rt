@@ -26,6 +26,8 @@ pub struct Board<A: Accumulator> {
     pub(crate) accumulator: A,
 }
 
+// Each call says what state it leaves and that no further cell is written: a model of a board cannot be one over the values of its accumulator yet, and
+// what stays is a relation of before and after, where a type says a fact of one value.
 impl<A: Accumulator> Board<A> {
     /// Whether `new` can be called: it refuses a first member that is no station.
     pub fn trial(first: u8) -> Result<(), Refusal>

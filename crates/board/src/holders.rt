@@ -35,6 +35,7 @@ fn held_by(seats: &[Option<View>; SEATS], wp: u32) -> u64
 
 impl<A: Accumulator> Board<A> {
     /// The stations that a waiter waits for, as a set with its count: bit k is station k's.
+    // A set of 64 bits with its count: a rule of the project (docs/BOARD.md).
     pub fn holders(&self, waiter: u8) -> Result<(u64, u32), Refusal>
         ensures answer { result ≡ holders_of (board_state A.meaning self.now).members waiter }
         ensures bits { IfOk result (λ h. BitsOf h.0 (view_of (slice_index_or (board_state A.meaning self.now).members waiter None)).wp (board_state A.meaning self.now).members) }

@@ -14,6 +14,7 @@ use refusal::limits::STATIONS;
 pub const SEATS: usize = STATIONS as usize;
 
 /// The view of each station that is a member.
+// A plain array of fixed size: a rule of the project, so that a table is copied whole by value (docs/DECISIONS.md).
 #[derive(Clone, Copy)]
 pub struct Members {
     pub(crate) seats: [Option<View>; SEATS],

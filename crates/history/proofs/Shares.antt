@@ -69,5 +69,5 @@ module _ {V : Type 0} where
 
     pub same_joining : CommutativeMonoid neutral join → (n : ℕ) (g h : List (Event V)) → SameShares n g h → joining_of neutral join (accepted_for n g) ≡ joining_of neutral join (accepted_for n h)
     same_joining laws n g h same =
-        let swap : Commuting joined_in = λ a i k x y ne. laws.assoc a x y ∙ ap (join a) (laws.comm x y) ∙ sym (laws.assoc a y x) in
+        let swap : Commuting joined_in = λ a i k x y ne. laws.0.assoc a x y ∙ ap (join a) (laws.1 x y) ∙ sym (laws.0.assoc a y x) in
         sym (joined_sends n g neutral) ∙ same_account joined_in swap n g h same neutral ∙ joined_sends n h neutral

@@ -12,20 +12,20 @@ use Rattle.joining.proofs.Steps.{every_at, every_set, every_within}
 
 module _ {V : Type 0} {neutral : V} {join : V → V → V} (laws : CommutativeMonoid neutral join) where
   pub right : (x : V) → join x neutral ≡ x
-  right x = laws.comm x neutral ∙ laws.left x
+  right x = laws.1 x neutral ∙ laws.0.left x
 
   pub left_comm : (x y z : V) → join x (join y z) ≡ join y (join x z)
-  left_comm x y z = sym (laws.assoc x y z) ∙ ap (λ v. join v z) (laws.comm x y) ∙ laws.assoc y x z
+  left_comm x y z = sym (laws.0.assoc x y z) ∙ ap (λ v. join v z) (laws.1 x y) ∙ laws.0.assoc y x z
 
   -- from any value, instead of neutral
   pub joining_onto : (x : V) (xs : List V) → fold join x xs ≡ join x (joining_of neutral join xs)
   joining_onto x [] = sym (right x)
   joining_onto x (y ∷ ys) =
-      joining_onto (join x y) ys ∙ laws.assoc x y (joining_of neutral join ys)
-      ∙ ap (join x) (sym (joining_onto y ys) ∙ ap (λ v. fold join v ys) (sym (laws.left y)))
+      joining_onto (join x y) ys ∙ laws.0.assoc x y (joining_of neutral join ys)
+      ∙ ap (join x) (sym (joining_onto y ys) ∙ ap (λ v. fold join v ys) (sym (laws.0.left y)))
 
   pub joining_cons : (x : V) (xs : List V) → joining_of neutral join (x ∷ xs) ≡ join x (joining_of neutral join xs)
-  joining_cons x xs = ap (λ v. fold join v xs) (laws.left x) ∙ joining_onto x xs
+  joining_cons x xs = ap (λ v. fold join v xs) (laws.0.left x) ∙ joining_onto x xs
 
   pub joining_append : (xs ys : List V) → joining_of neutral join (xs ++ ys) ≡ join (joining_of neutral join xs) (joining_of neutral join ys)
   joining_append xs ys = fold-append join neutral xs ys ∙ joining_onto (joining_of neutral join xs) ys
@@ -39,7 +39,7 @@ module _ {V : Type 0} {neutral : V} {join : V → V → V} (laws : CommutativeMo
   -- a value in the place of another is joined to the rest, which is the list with neutral there
   pub joining_set : (xs : List V) (i : ℕ) (x : V) → i < length xs → joining_of neutral join (set xs i x) ≡ join x (joining_of neutral join (set xs i neutral))
   joining_set [] i x h = absurd (omega arith)
-  joining_set (y ∷ ys) zero x h = joining_cons x ys ∙ ap (join x) (sym (joining_cons neutral ys ∙ laws.left (joining_of neutral join ys)))
+  joining_set (y ∷ ys) zero x h = joining_cons x ys ∙ ap (join x) (sym (joining_cons neutral ys ∙ laws.0.left (joining_of neutral join ys)))
   joining_set (y ∷ ys) (suc i) x h =
       joining_cons y (set ys i x) ∙ ap (join y) (joining_set ys i x (omega arith))
       ∙ left_comm y x (joining_of neutral join (set ys i neutral))
@@ -49,9 +49,9 @@ module _ {V : Type 0} {neutral : V} {join : V → V → V} (laws : CommutativeMo
   pub joining_grown : (xs : List V) (i : ℕ) (d x : V) → i < length xs → joining_of neutral join (set xs i (join (get_or xs i d) x)) ≡ join (joining_of neutral join xs) x
   joining_grown xs i d x h =
       let rest : V = joining_of neutral join (set xs i neutral) in
-      joining_set xs i (join (get_or xs i d) x) h ∙ ap (λ v. join v rest) (laws.comm (get_or xs i d) x)
-      ∙ laws.assoc x (get_or xs i d) rest ∙ ap (join x) (sym (joining_set xs i (get_or xs i d) h) ∙ ap (joining_of neutral join) (set-get_or xs i d))
-      ∙ laws.comm x (joining_of neutral join xs)
+      joining_set xs i (join (get_or xs i d) x) h ∙ ap (λ v. join v rest) (laws.1 (get_or xs i d) x)
+      ∙ laws.0.assoc x (get_or xs i d) rest ∙ ap (join x) (sym (joining_set xs i (get_or xs i d) h) ∙ ap (joining_of neutral join) (set-get_or xs i d))
+      ∙ laws.1 x (joining_of neutral join xs)
 
   -- two values at two places come out in either order
   two_set : (xs : List V) (i j : ℕ) (x y : V) → i ≢ j → i < length xs → j < length xs → joining_of neutral join (set (set xs i x) j y) ≡ join x (join y (joining_of neutral join (set (set xs i neutral) j neutral)))

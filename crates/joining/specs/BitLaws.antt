@@ -21,7 +21,7 @@ or_assoc =
     omega (arith, high, or_step (bit_or n b) c, or_step n (bit_or b c), or_low n b, or_low b c))
 
 pub or_laws : CommutativeMonoid 0 bit_or
-or_laws = record { assoc = or_assoc; comm = or_comm; left = λ x. refl }
+or_laws = (record { assoc = or_assoc; left = λ x. refl }, or_comm)
 
 pub xor_laws : CommutativeMonoid 0 bit_xor
-xor_laws = record { assoc = xor_assoc; comm = xor_comm; left = λ x. refl }
+xor_laws = (record { assoc = xor_assoc; left = λ x. refl }, xor_comm)

@@ -11,18 +11,22 @@ use Rattle.joining.specs.BitLaws.{or_laws}
 use Rattle.joining.specs.Same.{same_length, same_extremes, nearest_itself}
 
 pub length_laws : CommutativeMonoid no_length longer
-length_laws = record {
-  assoc = λ x y z. same_length (longer (longer x y) z) (longer x (longer y z)) (omega arith);
-  comm = λ x y. same_length (longer x y) (longer y x) (omega arith);
-  left = λ x. same_length (longer no_length x) x (omega arith);
-}
+length_laws = (
+  record {
+    assoc = λ x y z. same_length (longer (longer x y) z) (longer x (longer y z)) (omega arith);
+    left = λ x. same_length (longer no_length x) x (omega arith);
+  },
+  λ x y. same_length (longer x y) (longer y x) (omega arith),
+)
 
 pub bits_laws : {R : Type 0} {operation : ℕ → ℕ → ℕ} → CommutativeMonoid 0 operation → CommutativeMonoid {V = Bits R} (bits_of 0) (bitwise operation)
-bits_laws laws = record {
-  assoc = λ x y z. ap bits_of (laws.assoc x.bits y.bits z.bits);
-  comm = λ x y. ap bits_of (laws.comm x.bits y.bits);
-  left = λ x. ap bits_of (laws.left x.bits);
-}
+bits_laws laws = (
+  record {
+    assoc = λ x y z. ap bits_of (laws.0.assoc x.bits y.bits z.bits);
+    left = λ x. ap bits_of (laws.0.left x.bits);
+  },
+  λ x y. ap bits_of (laws.1 x.bits y.bits),
+)
 
 -- of two numbers in range the chosen one is in range, so its own nearest
 nearest_chosen : (t : Bool) (a b : ℤ) → InRange a → InRange b → nearest (cond t a b) ≡ cond t a b
@@ -36,33 +40,37 @@ max_assoc : (a b c : ℤ) → InRange a → InRange b → InRange c → int_max 
 max_assoc a b c p q r = simp (nearest_chosen (int_lt b a) a b p q, nearest_chosen (int_lt c b) b c q r) (omega (arith, ints, clamps))
 
 pub extremes_laws : CommutativeMonoid no_extremes wider
-extremes_laws = record {
-  assoc = λ x y z.
-      ap₂ extremes_of
-      (min_assoc x.thinnest y.thinnest z.thinnest x.thinnest_fits y.thinnest_fits z.thinnest_fits)
-      (max_assoc x.thickest y.thickest z.thickest x.thickest_fits y.thickest_fits z.thickest_fits);
-  comm = λ x y. ap₂ extremes_of (omega (arith, ints, clamps)) (omega (arith, ints, clamps));
-  left = λ x.
-      let low : int_min largest x.thinnest ≡ x.thinnest = omega (arith, ints, clamps, x.thinnest_fits) in
-      let high : int_max smallest x.thickest ≡ x.thickest = omega (arith, ints, clamps, x.thickest_fits) in
-      same_extremes (wider no_extremes x) x (ap nearest low ∙ nearest_itself _ x.thinnest_fits) (ap nearest high ∙ nearest_itself _ x.thickest_fits);
-}
+extremes_laws = (
+  record {
+    assoc = λ x y z.
+        ap₂ extremes_of
+        (min_assoc x.thinnest y.thinnest z.thinnest x.thinnest_fits y.thinnest_fits z.thinnest_fits)
+        (max_assoc x.thickest y.thickest z.thickest x.thickest_fits y.thickest_fits z.thickest_fits);
+    left = λ x.
+        let low : int_min largest x.thinnest ≡ x.thinnest = omega (arith, ints, clamps, x.thinnest_fits) in
+        let high : int_max smallest x.thickest ≡ x.thickest = omega (arith, ints, clamps, x.thickest_fits) in
+        same_extremes (wider no_extremes x) x (ap nearest low ∙ nearest_itself _ x.thinnest_fits) (ap nearest high ∙ nearest_itself _ x.thickest_fits);
+  },
+  λ x y. ap₂ extremes_of (omega (arith, ints, clamps)) (omega (arith, ints, clamps)),
+)
 
 pub record_laws : CommutativeMonoid no_record side_by_side
-record_laws = record {
-  assoc = λ x y z i. record {
-    length = length_laws.assoc x.length y.length z.length i;
-    extremes = extremes_laws.assoc x.extremes y.extremes z.extremes i;
-    marks = (bits_laws or_laws).assoc x.marks y.marks z.marks i;
-  };
-  comm = λ x y i. record {
-    length = length_laws.comm x.length y.length i;
-    extremes = extremes_laws.comm x.extremes y.extremes i;
-    marks = (bits_laws or_laws).comm x.marks y.marks i;
-  };
-  left = λ x i. record {
-    length = length_laws.left x.length i;
-    extremes = extremes_laws.left x.extremes i;
-    marks = (bits_laws or_laws).left x.marks i;
-  };
-}
+record_laws = (
+  record {
+    assoc = λ x y z i. record {
+      length = length_laws.0.assoc x.length y.length z.length i;
+      extremes = extremes_laws.0.assoc x.extremes y.extremes z.extremes i;
+      marks = (bits_laws or_laws).0.assoc x.marks y.marks z.marks i;
+    };
+    left = λ x i. record {
+      length = length_laws.0.left x.length i;
+      extremes = extremes_laws.0.left x.extremes i;
+      marks = (bits_laws or_laws).0.left x.marks i;
+    };
+  },
+  λ x y i. record {
+    length = length_laws.1 x.length y.length i;
+    extremes = extremes_laws.1 x.extremes y.extremes i;
+    marks = (bits_laws or_laws).1 x.marks y.marks i;
+  },
+)

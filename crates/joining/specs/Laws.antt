@@ -2,11 +2,17 @@
 use Rattle.std.specs.Prelude.{◌≡◌, List, ◌∷◌, ◌++◌, fold}
 use Rattle.std.specs.List.Sorted.{IsPermutation}
 
--- what each kind owes
-pub record CommutativeMonoid {V : Type 0} (neutral : V) (join : V → V → V) : Type 0 where
+-- an associative join, with a value that is neutral on the left
+pub record LeftMonoid {V : Type 0} (neutral : V) (join : V → V → V) : Type 0 where
   pub assoc : (x y z : V) → join (join x y) z ≡ join x (join y z)
-  pub comm : (x y : V) → join x y ≡ join y x
   pub left : (x : V) → join neutral x ≡ x
+
+abbrev pub Commutes : {V : Type 0} → (V → V → V) → Type 0
+Commutes {V} join = (x y : V) → join x y ≡ join y x
+
+-- what each kind owes
+abbrev pub CommutativeMonoid : {V : Type 0} → V → (V → V → V) → Type 0
+CommutativeMonoid neutral join = LeftMonoid neutral join × Commutes join
 
 -- the joining of a list: from neutral, each value joined in turn
 abbrev pub joining_of : {V : Type 0} → V → (V → V → V) → List V → V

@@ -20,7 +20,7 @@ pub struct Length {
 pub struct Bits<R> {
     pub bits: u16,
     #[derive_where(skip)]
-    pub(crate) rule: PhantomData<R>,
+    pub rule: PhantomData<R>,
 }
 
 /// A set of 16 marks: one that any value has stays.

@@ -3,7 +3,7 @@
 #![tactic(auto)]
 
 ghost use Rattle.std.specs.Prelude.{◌≡◌};
-ghost use Rattle.joining.specs.Laws.{CommutativeMonoid};
+ghost use Rattle.joining.specs.Laws.{LeftMonoid, Commutes};
 
 pub mod bitwise;
 pub mod fold;
@@ -15,6 +15,7 @@ pub mod values;
 pub trait Joining: Sized {
     ghost neutral: { Self };
 
+    // Two members and no pair, so that definitions read `join x y` and not a field of one.
     ghost joined: { Self → Self → Self };
 
     /// The value that changes nothing it is joined to.
@@ -25,7 +26,7 @@ pub trait Joining: Sized {
     fn join(self, other: Self) -> Self
         ensures { result ≡ joined self other };
 
-    ghost laws: { CommutativeMonoid neutral joined };
+    ghost laws: { LeftMonoid neutral joined × Commutes joined };
 }
 
 #[cfg(test)]

@@ -49,6 +49,7 @@ impl Extremes {
 
 impl CoilRecord {
     /// The record of one reading.
+    // Three numbers and no struct: a reading is of a log, which stands above.
     pub fn of_reading(length: u32, deviation: Deviation, marks: u16) -> CoilRecord
         ensures value { result ≡ reading_of length deviation marks }
         ensures length { result.length.run ≡ length }

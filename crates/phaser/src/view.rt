@@ -38,7 +38,7 @@ impl View {
 }
 
 /// Whether the first view happened before the second, and the second before the first.
-// Two yes-or-no answers, as a rule of the project has it: both may be yes, so this is no ordering.
+// Two yes-or-no answers: a rule of the project (docs/BOARD.md), and both may be yes, so this is no ordering.
 pub fn compare(first: &View, second: &View) -> (bool, bool)
     ensures forward { result.0 ≡ before first.now second.now }
     ensures backward { result.1 ≡ before second.now first.now }

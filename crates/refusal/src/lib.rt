@@ -6,6 +6,7 @@ ghost use Rattle.std.specs.Prelude.{◌≡◌};
 ghost use Rattle.refusal.specs.Refusals.{number, layer, place};
 
 pub mod limits;
+pub mod text;
 
 /// The part of the system that refuses.
 #[derive(Clone, Copy, Debug, PartialEq, Eq)]
@@ -62,7 +63,7 @@ pub enum Refusal {
 
 impl Refusal {
     /// The number by which the refusal is printed.
-    // A number, since a rule of the project prints it.
+    // A number, since it is what is printed: a rule of the project (docs/REFUSALS.md).
     pub fn number(&self) -> u8
         ensures { result ≡ number self.now }
     {

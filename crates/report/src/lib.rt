@@ -3,24 +3,13 @@
 #![tactic(auto)]
 
 ghost use Rattle.std.specs.Prelude.{◌≡◌, map, IfOk, string_bytes};
-ghost use Rattle.phaser.specs.Calls.{call_with};
-ghost use Rattle.shiftlog.specs.Reading.{reading_of};
 ghost use Rattle.shiftlog.specs.Record.{entry_of};
 ghost use Rattle.report.specs.Report.{listing_text, refusal_text, report_text};
 
-use phaser::call::Call;
 use refusal::Refusal;
 use shiftlog::log::Log;
-use shiftlog::reading::Reading;
-use shiftlog::step::Step;
+use shiftlog::step::{Step, read};
 use std::alloc::{AllocError, Global};
-
-/// The step with what its value says.
-fn read(step: Step<'_>) -> Call<Reading>
-    ensures { result ≡ call_with (λ value. reading_of value.now) step.entry }
-{
-    step.map(|value| Reading::from(value))
-}
 
 /// A line for each step, numbered from 1, and a last line with their count.
 fn listing(heap: Global, steps: &[Step<'_>]) -> Result<String, AllocError>
@@ -41,9 +30,7 @@ fn listing(heap: Global, steps: &[Step<'_>]) -> Result<String, AllocError>
 fn refused(heap: Global, refusal: Refusal) -> Result<String, AllocError>
     ensures { IfOk result (λ text. string_bytes text ≡ refusal_text refusal) }
 {
-    let number = refusal.number();
-    let place = refusal.place();
-    format!(in heap; "log no {number} {place}\n")
+    format!(in heap; "log no {refusal}\n")
 }
 
 /// The lines of a log's steps, or why it is refused. Only want of memory makes it fail.
