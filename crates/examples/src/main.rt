@@ -1,17 +1,30 @@
-//! Runs the report over the example logs, one after another.
+//! Runs the report over the example logs, one after another, and then plays one at the limits of a board.
 
 #![tactic(auto)]
 
-use report::report;
+use accumulator::eager::Eager;
+use board::board::Board;
+use board::calls::play;
+use joining::kinds::CoilRecord;
+use phaser::Mode;
+use playlog::calls::calls_of;
+use playlog::outcome::outcomes_of;
+use report::{lines, report};
+use shiftlog::log::Log;
 use std::fs;
 
-const NAMES: [&str; 20] = [
+/// How often `signals.log`, with its 999 signals, is played: station 1 has then signed every pass there is.
+const ROUNDS: u32 = 1001;
+
+const NAMES: [&str; 22] = [
     "nine",
     "empty",
     "view",
     "edges",
     "full",
     "one-over",
+    "no",
+    "passes",
     "refused-3-short",
     "refused-3-long",
     "refused-4",
@@ -37,11 +50,40 @@ fn show(rt: &HostRuntime, name: &str) -> anyhow::Result<()> {
     Ok(())
 }
 
+/// Plays a log on the board and hands out the lines of its records.
+fn play_on(
+    rt: &HostRuntime,
+    board: &mut Board<Eager<CoilRecord>>,
+    log: Log<'_>,
+) -> anyhow::Result<String> {
+    let steps = log.steps(rt.alloc())?;
+    let calls = calls_of(rt.alloc(), steps.as_slice())?;
+    let answers = play(board, calls.as_slice(), rt.alloc())?;
+    let outcomes = outcomes_of(rt.alloc(), steps.as_slice(), answers.as_slice())?;
+    Ok(lines(rt.alloc(), outcomes.as_slice())?)
+}
+
+/// A board with cells for two stations, on which one has signed to the end: each refusal of a call can be reached there.
+fn show_limits(rt: &HostRuntime) -> anyhow::Result<()> {
+    let signals = fs::read(rt, "signals.log")?;
+    let limits = fs::read(rt, "limits.log")?;
+    let signals = Log::check(signals.as_slice())?;
+    let limits = Log::check(limits.as_slice())?;
+    let mut board = Board::new(0, Mode::SignalWait, Eager::new(2));
+    for _ in 0..ROUNDS {
+        play_on(rt, &mut board, signals)?;
+    }
+    let text = play_on(rt, &mut board, limits)?;
+    let text = text.as_str();
+    print!(rt; "== limits\n{text}")?;
+    Ok(())
+}
+
 fn run(rt: &HostRuntime) -> anyhow::Result<()> {
     for name in NAMES {
         show(rt, name)?;
     }
-    Ok(())
+    show_limits(rt)
 }
 
 fn main(rt: HostRuntime) -> anyhow::Result<()> {

@@ -9,7 +9,7 @@ use Rattle.phaser.specs.declared.view.View.{View}
 use Rattle.phaser.specs.declared.call.Call.{Call}
 use Rattle.phaser.specs.declared.call.Answer.{Answer}
 use Rattle.accumulator.specs.Meaning.{answer_by, total_in}
-use Rattle.history.specs.State.{State, seat, made}
+use Rattle.history.specs.State.{State, seat, made, SoundState}
 use Rattle.history.specs.Limits.{Accepted}
 use Rattle.history.specs.Steps.{view_of, rules, answer_of, state_of, state_by}
 use Rattle.history.specs.Histories.{event_of, history, final_state, EachRefusal}
@@ -22,7 +22,7 @@ use Rattle.history.proofs.Complete.{totals_complete}
 use Rattle.history.proofs.OrderFree.{shares, order_free}
 use Rattle.history.proofs.Ends.{ended}
 use Rattle.history.proofs.Shares.{same_account}
-use Rattle.history.proofs.Agree.{accepts}
+use Rattle.history.proofs.Agree.{accepts, rules_agree_lem}
 use Rattle.history.proofs.Refusals.{fine, fine_verdict}
 
 module _ {V : Type 0} (neutral : V) (join : V → V → V) where
@@ -50,6 +50,12 @@ module _ {V : Type 0} (neutral : V) (join : V → V → V) where
   recorded : (j : ℕ) (mode : Mode) (limit : ℕ) → j < stations → (cs : List (Call V)) → Recorded neutral join j mode limit (history neutral join (made neutral j mode limit) cs) (final_state neutral join (made neutral j mode limit) cs)
   recorded j mode limit within cs = record { maker = within; run = (played cs 0 (made neutral j mode limit) (made_good neutral j mode limit within)).0 }
 
+  sound_after : (j : ℕ) (mode : Mode) (limit : ℕ) → j < stations → (cs : List (Call V)) → SoundState (final_state neutral join (made neutral j mode limit) cs)
+  sound_after j mode limit within cs =
+      let t = final_state neutral join (made neutral j mode limit) cs in
+      let e = ended neutral join j mode limit (history neutral join (made neutral j mode limit) cs) t (recorded j mode limit within cs) in
+      good_sound e.level t e.good
+
   pub law_of_the_record_lem : CommutativeMonoid neutral join → RecordIsLawful neutral join
   law_of_the_record_lem laws j mode limit within calls =
       let start : State V = made neutral j mode limit in
@@ -57,7 +63,8 @@ module _ {V : Type 0} (neutral : V) (join : V → V → V) where
       let t = final_state neutral join start calls in
       let rec = recorded j mode limit within calls in
       record {
-        sound = let e = ended neutral join j mode limit h t rec in good_sound e.level t e.good;
+        sound = sound_after j mode limit within calls;
+        by_rules = λ earlier later c cut. rules_agree_lem neutral join (final_state neutral join start earlier) (sound_after j mode limit within earlier) c.caller c.action;
         in_order = reads_in_order neutral join j mode limit h t rec;
         causal = reads_causal neutral join j mode limit h t rec;
         complete = totals_complete neutral join j mode limit h t rec;

@@ -1,5 +1,5 @@
 -- The law of the record, over every history of a board and an accumulator just made. Assumes nothing.
-use Rattle.std.specs.Prelude.{◌≡◌, ℕ, ◌<◌, ◌≢◌, List, [], ◌∷◌, Some}
+use Rattle.std.specs.Prelude.{◌≡◌, ℕ, ◌<◌, ◌≢◌, List, [], ◌∷◌, ◌++◌, Some}
 use Rattle.std.specs.List.{slice_get, AllByRecursion}
 use Rattle.refusal.specs.declared.Refusal.{Refusal}
 use Rattle.refusal.specs.declared.Refusal.TheVariants.{LastPassKept, NotKept}
@@ -10,6 +10,7 @@ use Rattle.phaser.specs.declared.view.View.{View}
 use Rattle.phaser.specs.declared.call.Call.{Call}
 use Rattle.phaser.specs.Views.{Before}
 use Rattle.history.specs.State.{State, made, SoundState}
+use Rattle.history.specs.Agreement.{Agrees}
 use Rattle.history.specs.Histories.{Event, history, final_state, readings, accepted_for, EachTotal, EachRefusal, done_by, calls_by, entrants}
 
 -- no view read later happened before one read earlier
@@ -53,9 +54,15 @@ module _ {V : Type 0} where
         let h : List (Event V) = history neutral join start others in
         Once (first_member ∷ entrants g) → SameCalls g h → SameAnswers g h × (final_state neutral join start calls ≡ final_state neutral join start others)
 
+    -- each call finds a board, left by the calls before it, on which it is accepted just where the rule of the literature applies within the limits
+    abbrev pub ByTheRules : State V → List (Call V) → Type 0
+    ByTheRules start calls =
+        (earlier later : List (Call V)) (c : Call V) → calls ≡ earlier ++ c ∷ later → Agrees neutral join (final_state neutral join start earlier) c.caller c.action
+
     -- what holds of calls made from a start on, at which the first member is alone
     pub record LawOfTheRecord (first_member : ℕ) (start : State V) (calls : List (Call V)) : Type 0 where
       pub sound : SoundState (final_state neutral join start calls)
+      pub by_rules : ByTheRules start calls
       pub in_order : ReadInOrder (readings (history neutral join start calls))
       pub causal : StrictOrder (readings (history neutral join start calls))
       pub complete : Complete (history neutral join start calls)

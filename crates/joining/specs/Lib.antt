@@ -5,3 +5,4 @@ pub mod Laws
 pub mod BitLaws
 pub mod KindLaws
 pub mod Same
+pub mod Text

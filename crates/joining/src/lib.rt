@@ -9,6 +9,7 @@ pub mod bitwise;
 pub mod fold;
 pub mod joins;
 pub mod kinds;
+pub mod text;
 pub mod values;
 
 /// A commutative monoid: a neutral value, and a join that keeps the three laws.

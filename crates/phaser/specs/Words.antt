@@ -4,16 +4,21 @@ use Rattle.std.specs.Option.{option_map}
 use Rattle.phaser.specs.declared.Mode.{Mode}
 use Rattle.phaser.specs.declared.Mode.TheVariants.{SignalWait, SignalOnly, WaitOnly}
 use Rattle.phaser.specs.declared.Verb.{Verb}
-use Rattle.phaser.specs.declared.Verb.TheVariants.{Register, Signal, Wait, Drop, Send, Result, View}
+use Rattle.phaser.specs.declared.Verb.TheVariants.{Register, Signal, Wait, Drop, Send, Result, View as AskView}
 use Rattle.phaser.specs.declared.call.Action.{Action}
 use Rattle.phaser.specs.declared.call.Action.TheVariants as action
 use Rattle.phaser.specs.declared.call.Call.{Call}
+use Rattle.phaser.specs.declared.view.View.{View}
 use Rattle.phaser.specs.declared.codes.UnknownCode.{UnknownCode}
 
 abbrev pub mode_text : Mode → List ℕ
 mode_text SignalWait = codes "SW"
 mode_text SignalOnly = codes "SO"
 mode_text WaitOnly = codes "WO"
+
+-- the mode before the counts
+abbrev pub view_text : View → List ℕ
+view_text v = mode_text v.mode ++ (codes " " ++ (decimal v.sp ++ (codes " " ++ decimal v.wp)))
 
 abbrev pub verb_text : Verb → List ℕ
 verb_text Register = codes "register"
@@ -22,7 +27,7 @@ verb_text Wait = codes "wait"
 verb_text Drop = codes "drop"
 verb_text Send = codes "send"
 verb_text Result = codes "result"
-verb_text View = codes "view"
+verb_text AskView = codes "view"
 
 abbrev pub unknown_text : UnknownCode → List ℕ
 unknown_text e = codes "no code " ++ decimal e.0
@@ -39,7 +44,7 @@ action_text text caller action.Wait = head_text Wait caller
 action_text text caller action.Drop = head_text Drop caller
 action_text text caller (action.Send value) = head_text Send caller ++ (codes " " ++ text value)
 action_text text caller action.Result = head_text Result caller
-action_text text caller action.View = head_text View caller
+action_text text caller action.View = head_text AskView caller
 
 abbrev pub call_text : {V : Type 0} → (V → List ℕ) → Call V → List ℕ
 call_text text c = action_text text c.caller c.action

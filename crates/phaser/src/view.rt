@@ -1,8 +1,10 @@
 //! A member's view, and which of two views happened before the other.
-ghost use Rattle.std.specs.Prelude.{◌≡◌};
+ghost use Rattle.std.specs.Prelude.{◌≡◌, Some};
 ghost use Rattle.phaser.specs.Views.{signs, waits, before};
+ghost use Rattle.phaser.specs.Words.{view_text};
 
 use crate::Mode;
+use std::fmt;
 
 /// What a member knows: its mode, the passes that it has signed (sp) and those that it has observed (wp).
 #[derive(Clone, Copy, Debug, PartialEq, Eq)]
@@ -34,6 +36,15 @@ impl View {
         ensures { result ≡ before self.now other.now }
     {
         self.mode.signs() && self.sp < other.wp && other.mode.waits()
+    }
+}
+
+impl fmt::Display for View {
+    ghost output = { λ v. Some (view_text v) };
+
+    fn fmt<W: fmt::Write>(&self, f: &mut fmt::Formatter<W>) -> fmt::Result {
+        let View { mode, sp, wp } = *self;
+        write!(f, "{mode} {sp} {wp}")
     }
 }
 

@@ -1,3 +1,4 @@
 pub mod Calls
 pub mod Plays
 pub mod Outcomes
+pub mod Text

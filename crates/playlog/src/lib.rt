@@ -9,3 +9,4 @@ pub mod play;
 pub mod same;
 #[cfg(test)]
 mod tests;
+pub mod text;

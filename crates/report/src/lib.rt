@@ -2,27 +2,46 @@
 
 #![tactic(auto)]
 
-ghost use Rattle.std.specs.Prelude.{◌≡◌, map, IfOk, string_bytes};
-ghost use Rattle.shiftlog.specs.Record.{entry_of};
-ghost use Rattle.report.specs.Report.{listing_text, refusal_text, report_text};
+ghost use Rattle.std.specs.Prelude.{◌≡◌, IfOk, string_bytes};
+ghost use Rattle.playlog.specs.Outcomes.{log_outcomes};
+ghost use Rattle.report.specs.Report.{lines_text, refusal_text, word_text, played_text, report_text};
 
+use playlog::log::{PlayedLog, play_log};
+use playlog::outcome::Outcome;
 use refusal::Refusal;
 use shiftlog::log::Log;
-use shiftlog::step::{Step, read};
 use std::alloc::{AllocError, Global};
 
-/// A line for each step, numbered from 1, and a last line with their count.
-fn listing(heap: Global, steps: &[Step<'_>]) -> Result<String, AllocError>
-    ensures { IfOk result (λ text. string_bytes text ≡ listing_text (map entry_of steps.now)) }
+/// A line for each outcome.
+pub fn lines(heap: Global, outcomes: &[Outcome]) -> Result<String, AllocError>
+    ensures { IfOk result (λ text. string_bytes text ≡ lines_text outcomes.now) }
 {
     let mut text = String::new(heap);
-    for (i, step) in steps.iter().enumerate() {
-        let number = i + 1;
-        let step = read(*step);
-        writeln!(text, "{number} {step}")?;
+    for outcome in outcomes {
+        writeln!(text, "{outcome}")?;
     }
-    let count = steps.len();
-    writeln!(text, "{count}")?;
+    Ok(text)
+}
+
+/// How the lazy answers compare.
+fn word_for(alike: bool) -> &'static str
+    ensures { result.now ≡ word_text alike }
+{
+    if alike { "alike" } else { "differs" }
+}
+
+/// The lines of the records, played eagerly, and a last line with their count and whether the lazy answers are alike.
+fn played(heap: Global, log: &Log<'_>) -> Result<String, AllocError>
+    ensures { IfOk result (λ text. string_bytes text ≡ played_text (log_outcomes log.now.bytes.now)) }
+{
+    let PlayedLog {
+        outcomes,
+        lazy_alike,
+    } = play_log(heap, log)?;
+    let mut text = lines(heap, outcomes.as_slice())?;
+    let count = outcomes.len();
+    let word = word_for(lazy_alike);
+    writeln!(text, "{count} lazy {word}")?;
     Ok(text)
 }
 
@@ -33,15 +52,12 @@ fn refused(heap: Global, refusal: Refusal) -> Result<String, AllocError>
     format!(in heap; "log no {refusal}\n")
 }
 
-/// The lines of a log's steps, or why it is refused. Only want of memory makes it fail.
+/// What a log's steps are answered, or why it is refused. Only want of memory makes it fail.
 pub fn report(heap: Global, bytes: &[u8]) -> Result<String, AllocError>
     ensures { IfOk result (λ text. string_bytes text ≡ report_text bytes.now) }
 {
     match Log::check(bytes) {
-        Ok(log) => {
-            let steps = log.steps(heap)?;
-            listing(heap, steps.as_slice())
-        }
+        Ok(log) => played(heap, &log),
         Err(refusal) => refused(heap, refusal),
     }
 }
