@@ -47,6 +47,7 @@ pub(crate) fn slot_of(pass: u32) -> Slot
 
 impl Window {
     /// The window of an accumulator that is just made.
+    // A number and no type of its own: the makings ask for it as their trials answer it, a rule of the project (docs/JOININGS.md).
     pub(crate) fn new(limit: usize) -> Window
         requires { verdict (eager_rules limit) ≡ Ok tt }
         ensures limit { result.limit ≡ limit }

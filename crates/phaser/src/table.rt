@@ -5,7 +5,7 @@ ghost use Rattle.phaser.specs.Tables.{allowed, admits, calls_by_modes, modes_by_
 use crate::{Mode, Verb};
 
 /// Which mode may make which call: a row for each call, a column for each mode.
-// Two constant tables, each with its own question: a rule of the project, so that they read as docs/BOARD.md has them.
+// Two constant tables, each with its own question: a rule of the project (docs/DECISIONS.md).
 const MAY: [[bool; 3]; 7] = [
     [true, true, true],
     [true, true, false],
