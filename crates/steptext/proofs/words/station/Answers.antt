@@ -1,0 +1,7 @@
+use Rattle.std.proofs.Common.{rules}
+use Rattle.steptext.specs.declared.expected.Expected.TheVariants.{Station}
+use Rattle.steptext.proofs.Numbers.{number_is}
+use Rattle.steptext.proofs.words.station.Goals as goal
+
+pub returns : goal.returns
+returns c = number_is 8 c.args.word.now c.parse.result c.map_err.result Station c.parse.ensures.value.0 (search rules)

@@ -1,0 +1,34 @@
+//! What a line should have where it has something else.
+ghost use Rattle.std.specs.Prelude.{Some};
+ghost use Rattle.steptext.specs.Texts.{expected_text};
+
+use std::fmt;
+
+/// What was expected where a line says no step.
+#[derive(Clone, Copy, Debug, PartialEq, Eq)]
+pub enum Expected {
+    Verb,
+    Station,
+    Mode,
+    Length,
+    Deviation,
+    Marks,
+    End,
+}
+
+impl fmt::Display for Expected {
+    ghost output = { λ e. Some (expected_text e) };
+
+    fn fmt<W: fmt::Write>(&self, f: &mut fmt::Formatter<W>) -> fmt::Result {
+        let text = match self {
+            Expected::Verb => "register, signal, wait, drop, send, result or view",
+            Expected::Station => "a station, 0 to 255",
+            Expected::Mode => "SW, SO or WO",
+            Expected::Length => "a length, 0 to 4294967295",
+            Expected::Deviation => "a deviation, -32768 to 32767",
+            Expected::Marks => "marks, 0 to 65535",
+            Expected::End => "the end of the line",
+        };
+        write!(f, "{text}")
+    }
+}

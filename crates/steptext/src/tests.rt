@@ -1,0 +1,32 @@
+//! Lines that say a step, and lines that say none.
+use crate::expected::Expected;
+use crate::line::step_of;
+use phaser::Mode;
+use phaser::call::{Action, Call};
+use std::test::Fail;
+
+#[test]
+fn a_register_is_read(rt: HostRuntime) -> Result<(), Fail> {
+    let step = step_of(rt.alloc(), "register 0 63 WO")?;
+    let action = Action::Register {
+        other: 63,
+        mode: Mode::WaitOnly,
+    };
+    assert_eq!(rt; step, Ok(Call { caller: 0, action }));
+    Ok(())
+}
+
+#[test]
+fn the_first_wrong_word_is_told(rt: HostRuntime) -> Result<(), Fail> {
+    let heap = rt.alloc();
+    assert_eq!(rt; step_of(heap, "")?, Err(Expected::Verb));
+    assert_eq!(rt; step_of(heap, "signal 256")?, Err(Expected::Station));
+    assert_eq!(rt; step_of(heap, "register 0 1 sw")?, Err(Expected::Mode));
+    assert_eq!(rt;
+        step_of(heap, "send 0 1 32768 0")?,
+        Err(Expected::Deviation)
+    );
+    assert_eq!(rt; step_of(heap, "send 0 1 -32768")?, Err(Expected::Marks));
+    assert_eq!(rt; step_of(heap, "view 1 ")?, Err(Expected::End));
+    Ok(())
+}
