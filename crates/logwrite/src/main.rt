@@ -3,28 +3,20 @@
 #![tactic(auto)]
 
 use anyhow::bail;
-use phaser::call::Call;
 use shiftlog::form::MAX_LOG_LEN;
-use shiftlog::reading::Reading;
 use shiftlog::writing::write_log;
-use std::io::{BufRead, BufReader, Write};
-use steptext::line::step_of;
-
-/// The steps of the lines. The first line that says none ends the program, with its number.
-fn steps(rt: &HostRuntime) -> anyhow::Result<Vec<Call<Reading>>> {
-    let heap = rt.alloc();
-    let mut steps = Vec::new(heap);
-    for (i, line) in BufReader::new(heap, rt.reader())?.lines(heap).enumerate() {
-        match step_of(heap, line?.as_str())? {
-            Ok(step) => steps.push(step)?,
-            Err(expected) => bail!("line {}: expected {expected}", i.saturating_add(1)),
-        }
-    }
-    Ok(steps)
-}
+use std::io::{Read, Write};
+use steptext::lines::steps_of;
 
 fn run(rt: &HostRuntime) -> anyhow::Result<()> {
-    let steps = steps(rt)?;
+    let heap = rt.alloc();
+    let mut text = String::new(heap);
+    rt.stdin().read_to_string(&mut text)?;
+    let lines: Vec<&str> = text.as_str().lines().collect(heap)?;
+    let steps = match steps_of(heap, lines.as_slice())? {
+        Ok(steps) => steps,
+        Err(bad) => bail!("{bad}"),
+    };
     let mut buffer = [0u8; MAX_LOG_LEN];
     let size = write_log(steps.as_slice(), &mut buffer)?;
     let mut out = rt.stdout();

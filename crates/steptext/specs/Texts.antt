@@ -1,6 +1,7 @@
 -- The words for what was expected. Assumes nothing.
-use Rattle.std.specs.Prelude.{ℕ, List, codes}
+use Rattle.std.specs.Prelude.{ℕ, List, ◌++◌, codes, decimal}
 use Rattle.steptext.specs.declared.expected.Expected.{Expected}
+use Rattle.steptext.specs.declared.lines.BadLine.{BadLine}
 use Rattle.steptext.specs.declared.expected.Expected.TheVariants.{Verb, Station, Mode, Length, Deviation, Marks, End}
 
 abbrev pub expected_text : Expected → List ℕ
@@ -11,3 +12,6 @@ expected_text Length = codes "a length, 0 to 4294967295"
 expected_text Deviation = codes "a deviation, -32768 to 32767"
 expected_text Marks = codes "marks, 0 to 65535"
 expected_text End = codes "the end of the line"
+
+abbrev pub bad_line_text : BadLine → List ℕ
+bad_line_text bad = codes "line " ++ (decimal bad.number ++ (codes ": expected " ++ expected_text bad.expected))

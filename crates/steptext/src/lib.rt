@@ -4,6 +4,7 @@
 
 pub mod expected;
 pub mod line;
+pub mod lines;
 #[cfg(test)]
 mod tests;
 mod words;

@@ -1,6 +1,7 @@
 //! Lines that say a step, and lines that say none.
 use crate::expected::Expected;
 use crate::line::step_of;
+use crate::lines::{BadLine, steps_of};
 use phaser::Mode;
 use phaser::call::{Action, Call};
 use std::test::Fail;
@@ -28,5 +29,19 @@ fn the_first_wrong_word_is_told(rt: HostRuntime) -> Result<(), Fail> {
     );
     assert_eq!(rt; step_of(heap, "send 0 1 -32768")?, Err(Expected::Marks));
     assert_eq!(rt; step_of(heap, "view 1 ")?, Err(Expected::End));
+    Ok(())
+}
+
+#[test]
+fn the_first_wrong_line_is_told(rt: HostRuntime) -> Result<(), Fail> {
+    let heap = rt.alloc();
+    let good = steps_of(heap, &["view 1", "signal 0"])?;
+    assert!(rt; good.is_ok_and(|steps| steps.len() == 2));
+    let bad = BadLine {
+        number: 2,
+        expected: Expected::Mode,
+    };
+    let lines = ["view 1", "register 0 1 S", "x"];
+    assert!(rt; steps_of(heap, &lines)?.is_err_and(|e| e == bad));
     Ok(())
 }
