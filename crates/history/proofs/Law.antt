@@ -23,7 +23,8 @@ use Rattle.history.proofs.OrderFree.{shares, order_free}
 use Rattle.history.proofs.Ends.{ended}
 use Rattle.history.proofs.Shares.{same_account}
 use Rattle.history.proofs.Agree.{accepts, rules_agree_lem}
-use Rattle.history.proofs.Refusals.{fine, fine_verdict}
+use Rattle.history.proofs.Fine.{fine_verdict}
+use Rattle.history.proofs.Refusals.{fine}
 
 module _ {V : Type 0} (neutral : V) (join : V → V → V) where
   -- calls from s on run by the rules, and each refusal among them is expected
@@ -45,7 +46,7 @@ module _ {V : Type 0} (neutral : V) (join : V → V → V) where
       let u : State V = state_of neutral join s c.caller v c.action in
       one_step s c cs l g (played cs) b u (verdict (rules s c.caller v c.action))
       (λ e. accepts neutral join s (good_sound l s g) c.caller c.action b u (ap (λ (w : Verdict). (answer_by w b, state_by w u s)) e))
-      (fine_verdict (rules s c.caller v c.action) (fine l s g c.caller c.action))
+      (fine_verdict Expected (rules s c.caller v c.action) (fine l s g c.caller c.action))
 
   recorded : (j : ℕ) (mode : Mode) (limit : ℕ) → j < stations → (cs : List (Call V)) → Recorded neutral join j mode limit (history neutral join (made neutral j mode limit) cs) (final_state neutral join (made neutral j mode limit) cs)
   recorded j mode limit within cs = record { maker = within; run = (played cs 0 (made neutral j mode limit) (made_good neutral j mode limit within)).0 }

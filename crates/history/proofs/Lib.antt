@@ -17,5 +17,6 @@ pub mod Turns
 pub mod Shown
 pub mod Outcomes
 pub mod Agree
+pub mod Fine
 pub mod Refusals
 pub mod Law
