@@ -1,0 +1,3 @@
+pub mod InTurn
+pub mod Keeping
+pub mod Histories

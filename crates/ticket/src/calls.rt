@@ -1,0 +1,135 @@
+//! The calls on tickets. Each answers as the call by number does, on every board.
+ghost use Rattle.std.specs.Prelude.{◌≡◌, Some, None, ⊤, IfOk, OnOk, IsOk, MatchResult};
+ghost use Rattle.phaser.specs.declared.call.Action.TheVariants.{Register, Signal, Wait, Drop, Send, Result as AskResult, View as AskView};
+ghost use Rattle.phaser.specs.declared.call.Answer.TheVariants.{Registered, Signaled, Observed, Dropped, Sent, Total, Viewed};
+ghost use Rattle.history.specs.Steps.{step};
+ghost use Rattle.board.specs.Board.{as_answer};
+ghost use Rattle.ticket.specs.Kinds.{newcomer_kind};
+ghost use Rattle.ticket.specs.Calls.{state_on, by_number, IsTicket, ComesBack};
+ghost use Rattle.ticket.specs.Truth.{Truthful, Keeps};
+
+use crate::kind::{MayRead, MaySend, MaySign, MayWait, TicketKind};
+use crate::ticket::{AnyTicket, Ticket};
+use crate::ticket_board::TicketBoard;
+use accumulator::Accumulator;
+use phaser::Mode;
+use phaser::view::View;
+use refusal::Refusal;
+
+// Each call is promised as one equation with the call by number (`result`), and says what it does to the truth of tickets (`keeps`).
+impl<K: TicketKind> Ticket<K> {
+    /// Brings in another station with the counts of its own, and answers them with the newcomer's ticket.
+    pub fn register<A: Accumulator>(
+        &self,
+        board: &mut TicketBoard<A>,
+        other: u8,
+        mode: Mode,
+    ) -> Result<(u32, u32, AnyTicket), Refusal>
+        ensures result { (as_answer (λ c. Registered c.0 c.1) result, state_on A.meaning board.new) ≡ step A.Value.neutral A.Value.joined (state_on A.meaning board.old) self.now.station (Register other mode) }
+        ensures ticket { IfOk result (λ c. IsTicket (newcomer_kind K.kind mode) other c.2) }
+        ensures keeps { Keeps (state_on A.meaning board.old) self.now.station K.kind (Some K.kind) result (state_on A.meaning board.new) }
+        ensures enters { Truthful (state_on A.meaning board.old) self.now.station K.kind → OnOk result (Truthful (state_on A.meaning board.new) other (newcomer_kind K.kind mode)) }
+        ensures spare { A.spare board.new.board.accumulator ≡ A.spare board.old.board.accumulator }
+    {
+        let (sp, wp) = board.board.register(self.station(), other, mode)?;
+        let ticket = AnyTicket::new(K::kind().newcomer(mode), other);
+        Ok((sp, wp, ticket))
+    }
+
+    /// Removes its station, which ends it. A ticket that tells the truth is never refused.
+    pub fn drop<A: Accumulator>(
+        self,
+        board: &mut TicketBoard<A>,
+    ) -> Result<(), (Refusal, Ticket<K>)>
+        ensures result { (as_answer (λ _. Dropped) (by_number result), state_on A.meaning board.new) ≡ step A.Value.neutral A.Value.joined (state_on A.meaning board.old) self.station Drop }
+        ensures ticket { MatchResult result (λ _. ⊤) (λ e. e.1 ≡ self) }
+        ensures keeps { Keeps (state_on A.meaning board.old) self.station K.kind None (by_number result) (state_on A.meaning board.new) }
+        ensures ends { Truthful (state_on A.meaning board.old) self.station K.kind → IsOk result }
+        ensures spare { A.spare board.new.board.accumulator ≡ A.spare board.old.board.accumulator }
+    {
+        match board.board.drop(self.station()) {
+            Ok(()) => {
+                self.end();
+                Ok(())
+            }
+            Err(refusal) => Err((refusal, self)),
+        }
+    }
+
+    /// The view of its station.
+    pub fn view<A: Accumulator>(&self, board: &TicketBoard<A>) -> Result<View, Refusal>
+        ensures result { (as_answer Viewed result, state_on A.meaning board.now) ≡ step A.Value.neutral A.Value.joined (state_on A.meaning board.now) self.now.station AskView }
+        ensures keeps { Keeps (state_on A.meaning board.now) self.now.station K.kind (Some K.kind) result (state_on A.meaning board.now) }
+    {
+        board.board.view(self.station())
+    }
+}
+
+impl<K: MaySign> Ticket<K> {
+    /// Raises the passes that its station has signed by one, and answers them with the station's next ticket.
+    pub fn sign<A: Accumulator>(
+        self,
+        board: &mut TicketBoard<A>,
+    ) -> Result<(u32, Ticket<K::Next>), (Refusal, Ticket<K>)>
+        ensures result { (as_answer (λ c. Signaled c.0) (by_number result), state_on A.meaning board.new) ≡ step A.Value.neutral A.Value.joined (state_on A.meaning board.old) self.station Signal }
+        ensures ticket { ComesBack self.station self result }
+        ensures keeps { Keeps (state_on A.meaning board.old) self.station K.kind (Some K.Next.kind) (by_number result) (state_on A.meaning board.new) }
+        ensures spare { A.spare board.new.board.accumulator ≡ A.spare board.old.board.accumulator }
+    {
+        let station = self.station();
+        match board.board.signal(station) {
+            Ok(sp) => {
+                self.end();
+                Ok((sp, Ticket::new(station)))
+            }
+            Err(refusal) => Err((refusal, self)),
+        }
+    }
+}
+
+impl<K: MayWait> Ticket<K> {
+    /// Raises the passes that its station has observed by one, and answers them with the station's next ticket.
+    pub fn wait<A: Accumulator>(
+        self,
+        board: &mut TicketBoard<A>,
+    ) -> Result<(u32, Ticket<K::Next>), (Refusal, Ticket<K>)>
+        ensures result { (as_answer (λ c. Observed c.0) (by_number result), state_on A.meaning board.new) ≡ step A.Value.neutral A.Value.joined (state_on A.meaning board.old) self.station Wait }
+        ensures ticket { ComesBack self.station self result }
+        ensures keeps { Keeps (state_on A.meaning board.old) self.station K.kind (Some K.Next.kind) (by_number result) (state_on A.meaning board.new) }
+        ensures spare { A.spare board.new.board.accumulator ≡ A.spare board.old.board.accumulator }
+    {
+        let station = self.station();
+        match board.board.wait(station) {
+            Ok(wp) => {
+                self.end();
+                Ok((wp, Ticket::new(station)))
+            }
+            Err(refusal) => Err((refusal, self)),
+        }
+    }
+}
+
+impl<K: MaySend> Ticket<K> {
+    /// Takes a value for the pass that its station signs next, and answers that pass.
+    pub fn send<A: Accumulator>(
+        &self,
+        board: &mut TicketBoard<A>,
+        value: A::Value,
+    ) -> Result<u32, Refusal>
+        ensures result { (as_answer Sent result, state_on A.meaning board.new) ≡ step A.Value.neutral A.Value.joined (state_on A.meaning board.old) self.now.station (Send value) }
+        ensures keeps { Keeps (state_on A.meaning board.old) self.now.station K.kind (Some K.kind) result (state_on A.meaning board.new) }
+        ensures spare { A.spare board.new.board.accumulator ≡ A.spare board.old.board.accumulator }
+    {
+        board.board.send(self.station(), value)
+    }
+}
+
+impl<K: MayRead> Ticket<K> {
+    /// The last pass that its station has observed, and its total.
+    pub fn result<A: Accumulator>(&self, board: &TicketBoard<A>) -> Result<(u32, A::Value), Refusal>
+        ensures result { (as_answer (λ t. Total t.0 t.1) result, state_on A.meaning board.now) ≡ step A.Value.neutral A.Value.joined (state_on A.meaning board.now) self.now.station AskResult }
+        ensures keeps { Keeps (state_on A.meaning board.now) self.now.station K.kind (Some K.kind) result (state_on A.meaning board.now) }
+    {
+        board.board.result(self.station())
+    }
+}

@@ -1,0 +1,62 @@
+//! A ticket: a station's number that is moved. None can be copied, made elsewhere or let go.
+ghost use Rattle.std.specs.Prelude.{◌≡◌};
+ghost use Rattle.ticket.specs.Calls.{IsTicket};
+
+use crate::kind::{Kind, Open, SignOnly, Signed, TicketKind, WaitOnly};
+use std::marker::PhantomData;
+
+/// A ticket of a kind, for a station: a plain number, as the kind is no data. It names no board.
+#[repr(transparent)]
+pub struct Ticket<K: TicketKind> {
+    station: u8,
+    kind: PhantomData<K>,
+}
+
+/// A ticket of any kind, as it is handed to who enters.
+pub enum AnyTicket {
+    Open(Ticket<Open>),
+    Signed(Ticket<Signed>),
+    SignOnly(Ticket<SignOnly>),
+    WaitOnly(Ticket<WaitOnly>),
+}
+
+impl<K: TicketKind> Ticket<K> {
+    /// The ticket of a station.
+    pub(crate) fn new(station: u8) -> Ticket<K>
+        ensures { result.station ≡ station }
+    {
+        Ticket {
+            station,
+            kind: PhantomData,
+        }
+    }
+
+    /// The station that it is for.
+    pub fn station(&self) -> u8
+        ensures { result ≡ self.now.station }
+    {
+        self.station
+    }
+
+    /// Takes it out of use.
+    pub(crate) fn end(self) {
+        let Ticket {
+            station: _,
+            kind: _,
+        } = self;
+    }
+}
+
+impl AnyTicket {
+    /// The ticket of a kind for a station.
+    pub(crate) fn new(kind: Kind, station: u8) -> AnyTicket
+        ensures { IsTicket kind station result }
+    {
+        match kind {
+            Kind::Open => AnyTicket::Open(Ticket::new(station)),
+            Kind::Signed => AnyTicket::Signed(Ticket::new(station)),
+            Kind::SignOnly => AnyTicket::SignOnly(Ticket::new(station)),
+            Kind::WaitOnly => AnyTicket::WaitOnly(Ticket::new(station)),
+        }
+    }
+}
