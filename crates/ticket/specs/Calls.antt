@@ -20,6 +20,11 @@ abbrev pub by_number : {X T : Type 0} → Result X (Refusal × T) → Result X R
 by_number (Ok x) = Ok x
 by_number (Err e) = Err e.0
 
+-- the same of a call that answers a ticket too
+abbrev pub without_ticket : {X T U : Type 0} → Result (X × T) (Refusal × U) → Result X Refusal
+without_ticket (Ok a) = Ok a.0
+without_ticket (Err e) = Err e.0
+
 -- an accepted call answers the next ticket of the same station, a refused one hands back the ticket that it took
 abbrev pub ComesBack : {X K L : Type 0} → ℕ → Ticket K → Result (X × Ticket L) (Refusal × Ticket K) → Type 0
 ComesBack station ticket r = MatchResult r (λ a. a.1.station ≡ station) (λ e. e.1 ≡ ticket)

@@ -5,7 +5,7 @@ ghost use Rattle.phaser.specs.declared.call.Answer.TheVariants.{Registered, Sign
 ghost use Rattle.history.specs.Steps.{step};
 ghost use Rattle.board.specs.Board.{as_answer};
 ghost use Rattle.ticket.specs.Kinds.{newcomer_kind};
-ghost use Rattle.ticket.specs.Calls.{state_on, by_number, IsTicket, ComesBack};
+ghost use Rattle.ticket.specs.Calls.{state_on, by_number, without_ticket, IsTicket, ComesBack};
 ghost use Rattle.ticket.specs.Truth.{Truthful, Keeps};
 
 use crate::kind::{MayRead, MaySend, MaySign, MayWait, TicketKind};
@@ -71,19 +71,13 @@ impl<K: MaySign> Ticket<K> {
         self,
         board: &mut TicketBoard<A>,
     ) -> Result<(u32, Ticket<K::Next>), (Refusal, Ticket<K>)>
-        ensures result { (as_answer (λ c. Signaled c.0) (by_number result), state_on A.meaning board.new) ≡ step A.Value.neutral A.Value.joined (state_on A.meaning board.old) self.station Signal }
+        ensures result { (as_answer Signaled (without_ticket result), state_on A.meaning board.new) ≡ step A.Value.neutral A.Value.joined (state_on A.meaning board.old) self.station Signal }
         ensures ticket { ComesBack self.station self result }
-        ensures keeps { Keeps (state_on A.meaning board.old) self.station K.kind (Some K.Next.kind) (by_number result) (state_on A.meaning board.new) }
+        ensures keeps { Keeps (state_on A.meaning board.old) self.station K.kind (Some K.Next.kind) (without_ticket result) (state_on A.meaning board.new) }
         ensures spare { A.spare board.new.board.accumulator ≡ A.spare board.old.board.accumulator }
     {
-        let station = self.station();
-        match board.board.signal(station) {
-            Ok(sp) => {
-                self.end();
-                Ok((sp, Ticket::new(station)))
-            }
-            Err(refusal) => Err((refusal, self)),
-        }
+        let answer = board.board.signal(self.station());
+        self.hand_over(answer)
     }
 }
 
@@ -93,19 +87,13 @@ impl<K: MayWait> Ticket<K> {
         self,
         board: &mut TicketBoard<A>,
     ) -> Result<(u32, Ticket<K::Next>), (Refusal, Ticket<K>)>
-        ensures result { (as_answer (λ c. Observed c.0) (by_number result), state_on A.meaning board.new) ≡ step A.Value.neutral A.Value.joined (state_on A.meaning board.old) self.station Wait }
+        ensures result { (as_answer Observed (without_ticket result), state_on A.meaning board.new) ≡ step A.Value.neutral A.Value.joined (state_on A.meaning board.old) self.station Wait }
         ensures ticket { ComesBack self.station self result }
-        ensures keeps { Keeps (state_on A.meaning board.old) self.station K.kind (Some K.Next.kind) (by_number result) (state_on A.meaning board.new) }
+        ensures keeps { Keeps (state_on A.meaning board.old) self.station K.kind (Some K.Next.kind) (without_ticket result) (state_on A.meaning board.new) }
         ensures spare { A.spare board.new.board.accumulator ≡ A.spare board.old.board.accumulator }
     {
-        let station = self.station();
-        match board.board.wait(station) {
-            Ok(wp) => {
-                self.end();
-                Ok((wp, Ticket::new(station)))
-            }
-            Err(refusal) => Err((refusal, self)),
-        }
+        let answer = board.board.wait(self.station());
+        self.hand_over(answer)
     }
 }
 

@@ -1,8 +1,9 @@
 //! A ticket: a station's number that is moved. None can be copied, made elsewhere or let go.
 ghost use Rattle.std.specs.Prelude.{◌≡◌};
-ghost use Rattle.ticket.specs.Calls.{IsTicket};
+ghost use Rattle.ticket.specs.Calls.{without_ticket, IsTicket, ComesBack};
 
 use crate::kind::{Kind, Open, SignOnly, Signed, TicketKind, WaitOnly};
+use refusal::Refusal;
 use std::marker::PhantomData;
 
 /// A ticket of a kind, for a station: a plain number, as the kind is no data. It names no board.
@@ -36,6 +37,24 @@ impl<K: TicketKind> Ticket<K> {
         ensures { result ≡ self.now.station }
     {
         self.station
+    }
+
+    /// Its answer with the station's next ticket, or its refusal with the ticket itself.
+    pub(crate) fn hand_over<N: TicketKind>(
+        self,
+        answer: Result<u32, Refusal>,
+    ) -> Result<(u32, Ticket<N>), (Refusal, Ticket<K>)>
+        ensures answer { without_ticket result ≡ answer }
+        ensures ticket { ComesBack self.station self result }
+    {
+        match answer {
+            Ok(count) => {
+                let next = Ticket::new(self.station);
+                self.end();
+                Ok((count, next))
+            }
+            Err(refusal) => Err((refusal, self)),
+        }
     }
 
     /// Takes it out of use.

@@ -1,27 +1,23 @@
-use Rattle.std.proofs.Common.{Ok, Err, Some, ap, ◌∙◌, rules}
+use Rattle.std.proofs.Common.{Some, ap, ◌∙◌}
 use Rattle.phaser.specs.declared.call.Action.TheVariants.{Wait}
 use Rattle.phaser.specs.declared.call.Answer.TheVariants.{Observed}
 use Rattle.history.specs.Steps.{step}
-use Rattle.ticket.specs.Calls.{state_on}
+use Rattle.board.specs.Board.{as_answer}
+use Rattle.ticket.specs.Calls.{state_on, without_ticket}
 use Rattle.ticket.proofs.Keeping.{keeps}
 use Rattle.ticket.proofs.ticket.Ticket.wait.Goals as goal
 
-pub returns-in-Ok-clause-keeps : goal.returns-in-Ok-clause-keeps
-returns-in-Ok-clause-keeps g c =
+pub returns-clause-result : goal.returns-clause-result
+returns-clause-result g c =
+    let v = g.A.Value.Joining in
+    let on = state_on g.A.Accumulator.meaning in
+    ap (λ r. (as_answer Observed r, on (record { board = c.wait-answer.new.self }))) c.hand_over.ensures.answer
+    ∙ c.wait-answer.ensures.result
+    ∙ ap (λ k. step v.neutral v.joined (on c.args.board.now) k Wait) c.station.ensures
+
+pub returns-clause-keeps : goal.returns-clause-keeps
+returns-clause-keeps g c =
     let v = g.A.Value.Joining in
     let on = state_on g.A.Accumulator.meaning in
     let law = g.met.K.MayWait in
-    keeps v.neutral v.joined (on c.args.board.now) c.args.self.station g.K.TicketKind.kind (on (record { board = c.wait.new.self })) Wait (Some g.K.Next.TicketKind.kind) (ap Some law.next) law.offered (λ p. Observed p.0) (Ok (c.in-Ok.wp, c.new.result)) (search rules)
-
-pub returns-in-Err-clause-result : goal.returns-in-Err-clause-result
-returns-in-Err-clause-result g c =
-    let v = g.A.Value.Joining in
-    let s = state_on g.A.Accumulator.meaning c.args.board.now in
-    c.in-Err.ensures.result ∙ ap (λ k. step v.neutral v.joined s k Wait) c.station-station.ensures
-
-pub returns-in-Err-clause-keeps : goal.returns-in-Err-clause-keeps
-returns-in-Err-clause-keeps g c =
-    let v = g.A.Value.Joining in
-    let on = state_on g.A.Accumulator.meaning in
-    let law = g.met.K.MayWait in
-    keeps v.neutral v.joined (on c.args.board.now) c.args.self.station g.K.TicketKind.kind (on (record { board = c.wait.new.self })) Wait (Some g.K.Next.TicketKind.kind) (ap Some law.next) law.offered (λ p. Observed p.0) (Err c.in-Err.refusal) (returns-in-Err-clause-result g c)
+    keeps v.neutral v.joined (on c.args.board.now) c.args.self.station g.K.TicketKind.kind (on (record { board = c.wait-answer.new.self })) Wait (Some g.K.Next.TicketKind.kind) (ap Some law.next) law.offered Observed (without_ticket c.hand_over.result) (returns-clause-result g c)
