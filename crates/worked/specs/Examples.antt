@@ -1,12 +1,12 @@
 -- Worked examples over all layers. Assumes nothing.
-use Rattle.std.specs.Prelude.{◌≡◌, ℕ, true, false, List, [], ◌∷◌, ◌++◌, replicate, Ok, Err}
+use Rattle.std.specs.Prelude.{◌≡◌, ℕ, true, false, List, [], ◌∷◌, ◌++◌, replicate, take, Some, None, Option, Ok, Err}
 use Rattle.refusal.specs.declared.Refusal.TheVariants.{TooFewCells, OutOfTurn, NotSigned, NothingObserved, NoCell}
 use Rattle.refusal.specs.Rules.{verdict}
 use Rattle.phaser.specs.declared.Mode.{Mode}
 use Rattle.phaser.specs.declared.Mode.TheVariants.{SignalWait, WaitOnly}
 use Rattle.phaser.specs.declared.view.View.{View}
 use Rattle.phaser.specs.declared.call.Action.{Action}
-use Rattle.phaser.specs.declared.call.Action.TheVariants.{Register, Signal, Wait, Send, Result as AskResult, View as AskView}
+use Rattle.phaser.specs.declared.call.Action.TheVariants.{Register, Signal, Wait, Drop, Send, Result as AskResult, View as AskView}
 use Rattle.phaser.specs.declared.call.Call.{Call}
 use Rattle.phaser.specs.declared.call.Answer.TheVariants.{Registered, Signaled, Observed, Sent, Total, Viewed}
 use Rattle.phaser.specs.Views.{before}
@@ -14,7 +14,12 @@ use Rattle.joining.specs.declared.kinds.Length.{Length}
 use Rattle.joining.specs.Kinds.{length_of, no_length, longer}
 use Rattle.accumulator.specs.Window.{lazy_rules}
 use Rattle.shiftlog.specs.Block.{check_of}
-use Rattle.history.specs.State.{made}
+use Rattle.accumulator.specs.Meaning.{made_with}
+use Rattle.history.specs.State.{State, made}
+use Rattle.board.specs.Board.{made_on}
+use Rattle.ticket.specs.declared.kind.Kind.{Kind}
+use Rattle.ticket.specs.declared.kind.Kind.TheVariants.{Open, Signed}
+use Rattle.ticket.specs.Truth.{TicketCall, OnTickets, final_tickets, first_ticket}
 use Rattle.history.specs.Histories.{Event, Event.accepted, Event.refused, history}
 
 abbrev pub by : ℕ → Action Length → Call Length
@@ -26,6 +31,21 @@ recorded first_member limit calls = history no_length longer (made no_length fir
 
 abbrev pub view_with : Mode → ℕ → ℕ → View
 view_with mode sp wp = record { mode = mode; sp = sp; wp = wp }
+
+-- a call on a ticket of a kind
+abbrev pub on : Kind → ℕ → Action Length → TicketCall Length
+on kind caller action = record { kind = kind; call = by caller action }
+
+-- 0 signs, brings in 1 as SW and waits, all on its ticket; then 1 leaves
+abbrev pub ticket_calls : List (TicketCall Length)
+ticket_calls = on Open 0 Signal ∷ on Signed 0 (Register 1 SignalWait) ∷ on Signed 0 Wait ∷ on Signed 1 Drop ∷ []
+
+abbrev pub first_board : State Length
+first_board = made_on 0 SignalWait (made_with no_length 64)
+
+-- the ticket that is out for a station after some of them
+abbrev pub ticket_after : List (TicketCall Length) → ℕ → Option Kind
+ticket_after calls = final_tickets no_length longer first_board (first_ticket 0 SignalWait) calls
 
 -- block 0 of a log with the one record view 0, its check left out
 abbrev pub one_view : List ℕ
@@ -61,6 +81,11 @@ pub record WorkedExamples : Type 0 where
       ∷ accepted 1 Wait (Observed 1)
       ∷ accepted 1 AskResult (Total 1 (length_of 7))
       ∷ []
+  -- each call is on a ticket that is out: 1, brought in on a signed ticket, holds a signed one
+  pub on_tickets : OnTickets no_length longer first_board (first_ticket 0 SignalWait) ticket_calls
+  pub signed_newcomer : ticket_after (take 2 ticket_calls) 1 ≡ Some Signed
+  pub open_again : ticket_after ticket_calls 0 ≡ Some Open
+  pub ended : ticket_after ticket_calls 1 ≡ None
   pub nothing_yet : recorded 0 64 (by 0 AskResult ∷ []) ≡ refused 0 AskResult (NothingObserved 0) ∷ []
   pub first_before : before (view_with SignalWait 0 0) (view_with SignalWait 1 1) ≡ true
   pub not_second_before : before (view_with SignalWait 1 1) (view_with SignalWait 0 0) ≡ false

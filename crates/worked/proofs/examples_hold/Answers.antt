@@ -9,6 +9,13 @@ returns c = record {
   newcomer = refl;
   waiter = refl;
   totals = refl;
+  on_tickets = (
+    record { held = refl; offered = refl },
+    (record { held = refl; offered = refl }, (record { held = refl; offered = refl }, (record { held = refl; offered = refl }, tt))),
+  );
+  signed_newcomer = refl;
+  open_again = refl;
+  ended = refl;
   nothing_yet = refl;
   first_before = refl;
   not_second_before = refl;
