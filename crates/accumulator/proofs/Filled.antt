@@ -1,4 +1,4 @@
--- A list that calls filled with one value. Assumes nothing.
+-- A list that calls filled with one value.
 use Rattle.std.proofs.Common.{◌≡◌, ℕ, zero, suc, List, [], ◌∷◌, length, replicate, refl, ap₂, arith}
 use Rattle.std.specs.List.{FoldsTo}
 

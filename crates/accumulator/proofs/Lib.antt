@@ -1,5 +1,6 @@
 pub mod Ring
 pub mod OneSlot
-pub mod Cells
+pub mod CellSlots
 pub mod Filled
-pub mod Runs
+pub mod OwnCells
+pub mod Meant

@@ -1,7 +1,9 @@
 pub mod Window
 pub mod Meaning
+pub mod LentCells
 pub mod Ring
 pub mod Changed
 pub mod Eager
 pub mod Lazy
-pub mod Run
+pub mod Calls
+pub mod OwnCells

@@ -1,6 +1,6 @@
 //! What keeps a total for each slot.
-ghost use Rattle.std.specs.Prelude.{◌≡◌, ℕ, ◌<◌, ◌≤◌};
-ghost use Rattle.accumulator.specs.Meaning.{Spare};
+ghost use Rattle.std.specs.Prelude.{◌≡◌, ℕ, ◌<◌, ◌≤◌, List};
+ghost use Rattle.accumulator.specs.LentCells.{Lent, with_values};
 ghost use Rattle.accumulator.specs.Changed.{OneChanged};
 
 use crate::window::Slot;
@@ -17,15 +17,22 @@ pub trait Slots {
     /// The total of a slot, by the limit.
     ghost total: { Self → ℕ → ℕ → Self.Value };
 
-    /// The cells that are lent, and those that no call writes, by the limit.
-    ghost spare: { Self → ℕ → Spare Self.Value };
+    /// The cells that are lent, each with what it holds.
+    ghost cells: { Self → Lent Self.Value };
+
+    /// What they hold after a station's value is joined to a slot.
+    ghost join_change: { ℕ → ℕ → Self.Value → List Self.Value → List Self.Value };
+
+    /// What they hold after a slot is made neutral, by the limit.
+    ghost wipe_change: { ℕ → ℕ → List Self.Value → List Self.Value };
 
     /// Joins a station's value to the total of a slot.
     fn join(&mut self, station: u8, slot: Slot, value: Self::Value)
         requires { station < places self.old }
-        ensures total { (limit : ℕ) → station < limit → limit ≤ places self.old → OneChanged (total self.old limit) (total self.new limit) slot.index (Self.Value.joined (total self.old limit slot.index) value) }
+        ensures total { (limit : ℕ) → station < limit → limit ≤ places self.old →
+            OneChanged (total self.old limit) (total self.new limit) slot.index (Self.Value.joined (total self.old limit slot.index) value) }
         ensures places { places self.new ≡ places self.old }
-        ensures spare { (limit : ℕ) → station < limit → spare self.new limit ≡ spare self.old limit };
+        ensures cells { cells self.new ≡ with_values (join_change station slot.index value) (cells self.old) };
 
     /// The total of a slot.
     fn total(&self, limit: u8, slot: Slot) -> Self::Value
@@ -37,5 +44,5 @@ pub trait Slots {
         requires { limit ≤ places self.old }
         ensures total { OneChanged (total self.old limit) (total self.new limit) slot.index Self.Value.neutral }
         ensures places { places self.new ≡ places self.old }
-        ensures spare { spare self.new limit ≡ spare self.old limit };
+        ensures cells { cells self.new ≡ with_values (wipe_change limit slot.index) (cells self.old) };
 }

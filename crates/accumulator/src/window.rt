@@ -1,8 +1,9 @@
 //! The limit and the kept passes: all that an accumulator refuses by.
-ghost use Rattle.std.specs.Prelude.{◌≡◌, ◌+◌, ◌<◌, ◌≤◌, Ok, Err, MatchResult};
-ghost use Rattle.refusal.specs.Limits.{stations, last_pass};
-ghost use Rattle.refusal.specs.Rules.{verdict};
-ghost use Rattle.accumulator.specs.Window.{kept, slot_of, keeps, eager_rules, total_rules, add_rules, move_on_rules};
+ghost use Rattle.std.specs.Prelude.{◌≡◌, ◌+◌, ◌<◌, ◌≤◌, Ok};
+ghost use Rattle.refusal.specs.declared.limits.TheConstants.{STATIONS, LAST_PASS};
+ghost use Rattle.refusal.specs.Rules.{verdict, DecidedBy};
+ghost use Rattle.accumulator.specs.Window.{slot_of, keeps, eager_rules, total_rules, add_rules, move_on_rules};
+ghost use Rattle.accumulator.specs.declared.TheConstants.{KEPT};
 
 use crate::KEPT;
 use refusal::Refusal;
@@ -14,12 +15,11 @@ pub struct Window {
     pub(crate) limit: u8,
     pub(crate) first: u32,
     ghost some: { 1 ≤ limit },
-    ghost most: { limit ≤ stations },
-    ghost early: { first ≤ last_pass },
+    ghost most: { limit ≤ STATIONS },
+    ghost early: { first ≤ LAST_PASS },
 }
 
 /// Whether so many stations may be given cells.
-// A check and no conversion: a rule of the project (docs/JOININGS.md) has a trial that answers, and a making that asks what its trial accepted.
 pub(crate) fn try_limit(limit: usize) -> Result<(), Refusal>
     ensures { result ≡ verdict (eager_rules limit) }
 {
@@ -33,7 +33,7 @@ pub(crate) fn try_limit(limit: usize) -> Result<(), Refusal>
 #[derive(Clone, Copy)]
 pub struct Slot {
     pub(crate) index: usize,
-    ghost within: { index < kept },
+    ghost within: { index < KEPT },
 }
 
 /// The slot of a pass.
@@ -47,7 +47,6 @@ pub(crate) fn slot_of(pass: u32) -> Slot
 
 impl Window {
     /// The window of an accumulator that is just made.
-    // A number and no type of its own: the makings ask for it as their trials answer it, a rule of the project (docs/JOININGS.md).
     pub(crate) fn new(limit: usize) -> Window
         requires { verdict (eager_rules limit) ≡ Ok tt }
         ensures limit { result.limit ≡ limit }
@@ -88,7 +87,7 @@ impl Window {
 
     /// The window after a move on.
     pub(crate) fn moved_on(self) -> Result<Window, Refusal>
-        ensures { MatchResult result (λ w. (verdict (move_on_rules self.first) ≡ Ok tt) × (w.limit ≡ self.limit) × (w.first ≡ self.first + 1)) (λ refusal. verdict (move_on_rules self.first) ≡ Err refusal) }
+        ensures { DecidedBy (move_on_rules self.first) result (λ w. (w.limit ≡ self.limit) × (w.first ≡ self.first + 1)) }
     {
         if self.first >= LAST_PASS {
             return Err(Refusal::LastPassKept { first: self.first });

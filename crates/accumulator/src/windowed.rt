@@ -1,6 +1,7 @@
 //! The accumulator that keeps its totals in slots.
 ghost use Rattle.std.specs.Prelude.{◌≤◌};
-ghost use Rattle.accumulator.specs.Ring.{seen, seen_sound};
+ghost use Rattle.accumulator.specs.LentCells.{slot_changes};
+ghost use Rattle.accumulator.specs.Ring.{window_meaning, window_meaning_sound};
 
 use crate::Accumulator;
 use crate::slots::Slots;
@@ -19,11 +20,13 @@ pub struct Windowed<S: Slots> {
 impl<S: Slots> Accumulator for Windowed<S> {
     type Value = S::Value;
 
-    ghost meaning = { λ a. seen a.window (S.total a.slots a.window.limit) };
+    ghost meaning = { λ a. window_meaning a.window (S.total a.slots a.window.limit) };
 
-    ghost sound = { λ a. seen_sound a.window (S.total a.slots a.window.limit) };
+    ghost sound = { λ a. window_meaning_sound a.window (S.total a.slots a.window.limit) };
 
-    ghost spare = { λ a. S.spare a.slots a.window.limit };
+    ghost cells = { λ a. S.cells a.slots };
+
+    ghost changes = { slot_changes S.join_change S.wipe_change };
 
     fn neutral() -> S::Value {
         S::Value::neutral()
@@ -33,7 +36,7 @@ impl<S: Slots> Accumulator for Windowed<S> {
         self.window.first
     }
 
-    #[tactic(auto, using(crate::proofs::OneSlot::slot_added, crate::proofs::OneSlot::below_limit))]
+    #[tactic(auto, using(crate::proofs::OneSlot::below_limit))]
     fn add(&mut self, station: u8, pass: u32, value: S::Value) -> Result<(), Refusal> {
         self.window.try_add(station, pass)?;
         self.slots.join(station, slot_of(pass), value);

@@ -1,15 +1,15 @@
--- The parts of a call's rules that several calls share. Assumes nothing.
+-- The parts of a call's rules that several calls share.
 use Rattle.std.specs.Prelude.{ℕ, ◌+◌, List, [], ◌∷◌, replicate, is_some, Some, None, Option, Result, slice_index_or, slice_set}
 use Rattle.refusal.specs.declared.Refusal.{Refusal}
 use Rattle.refusal.specs.declared.Refusal.TheVariants.{NotMember}
-use Rattle.refusal.specs.Limits.{stations}
+use Rattle.refusal.specs.declared.limits.TheConstants.{STATIONS}
 use Rattle.refusal.specs.Rules.{Rule, rule, verdict}
-use Rattle.phaser.specs.declared.Mode.{Mode}
-use Rattle.phaser.specs.declared.Verb.{Verb}
-use Rattle.phaser.specs.declared.view.View.{View}
+use Rattle.calls.specs.declared.Mode.{Mode}
+use Rattle.calls.specs.declared.Verb.{Verb}
+use Rattle.calls.specs.declared.views.View.{View}
 use Rattle.accumulator.specs.Meaning.{answer_by}
-use Rattle.history.specs.State.{newly}
-use Rattle.history.specs.Steps.{view_of, station_rule, mode_rule, sign_turn, wait_turn, pass_rule}
+use Rattle.phaser.specs.State.{first_view}
+use Rattle.phaser.specs.Steps.{view_of, station_rule, mode_rule, sign_turn, wait_turn, pass_rule}
 
 -- the rules of making a board by its first member
 abbrev pub board_rules : ℕ → List Rule
@@ -19,9 +19,6 @@ board_rules first = station_rule first ∷ []
 abbrev pub entry_rules : List (Option View) → ℕ → Verb → List Rule
 entry_rules seats j verb = station_rule j ∷ rule (is_some (slice_index_or seats j None)) (NotMember j) ∷ mode_rule j (view_of (slice_index_or seats j None)) verb ∷ []
 
-abbrev pub entered : List (Option View) → ℕ → Verb → Result View Refusal
-entered seats j verb = answer_by (verdict (entry_rules seats j verb)) (view_of (slice_index_or seats j None))
-
 -- the pass after those counted
 abbrev pub next_pass : ℕ → ℕ → Result ℕ Refusal
 next_pass count j = answer_by (verdict (pass_rule j (count + 1) ∷ [])) (count + 1)
@@ -30,15 +27,15 @@ next_pass count j = answer_by (verdict (pass_rule j (count + 1) ∷ [])) (count 
 abbrev pub sign_rules : View → ℕ → List Rule
 sign_rules v j = sign_turn j v ∷ pass_rule j (v.sp + 1) ∷ []
 
-abbrev pub next_signed : View → ℕ → Result ℕ Refusal
-next_signed v j = answer_by (verdict (sign_rules v j)) (v.sp + 1)
+abbrev pub pass_to_sign : View → ℕ → Result ℕ Refusal
+pass_to_sign v j = answer_by (verdict (sign_rules v j)) (v.sp + 1)
 
 abbrev pub wait_rules : View → ℕ → List Rule
 wait_rules v j = wait_turn j v ∷ pass_rule j (v.wp + 1) ∷ []
 
-abbrev pub next_observed : View → ℕ → Result ℕ Refusal
-next_observed v j = answer_by (verdict (wait_rules v j)) (v.wp + 1)
+abbrev pub pass_to_observe : View → ℕ → Result ℕ Refusal
+pass_to_observe v j = answer_by (verdict (wait_rules v j)) (v.wp + 1)
 
 -- the seats of a board just made
-abbrev pub first_seated : ℕ → Mode → List (Option View)
-first_seated first mode = slice_set (replicate stations None) first (Some (newly mode))
+abbrev pub first_members : ℕ → Mode → List (Option View)
+first_members first mode = slice_set (replicate STATIONS None) first (Some (first_view mode))

@@ -1,12 +1,12 @@
--- Who holds a waiter back. Assumes nothing.
+-- Who holds a waiter back.
 use Rattle.std.specs.Prelude.{◌≡◌, ℕ, ◌+◌, ◌*◌, ◌/◌, ◌%◌, ◌^◌, Bool, false, cond, ◌&&◌, List, [], ◌∷◌, Some, None, Option, Result, count_ones, nat_lt, slice_index_or}
 use Rattle.refusal.specs.declared.Refusal.{Refusal}
 use Rattle.refusal.specs.Rules.{verdict}
-use Rattle.phaser.specs.declared.Verb.TheVariants as verb
-use Rattle.phaser.specs.declared.view.View.{View}
-use Rattle.phaser.specs.Views.{signs}
+use Rattle.calls.specs.declared.Verb.TheVariants as verb
+use Rattle.calls.specs.declared.views.View.{View}
+use Rattle.calls.specs.Views.{signs}
 use Rattle.accumulator.specs.Meaning.{answer_by}
-use Rattle.history.specs.Steps.{view_of}
+use Rattle.phaser.specs.Steps.{view_of}
 use Rattle.board.specs.Entry.{entry_rules}
 
 -- a member that signs, and has not signed the pass after wp
@@ -15,9 +15,9 @@ holds_back wp None = false
 holds_back wp (Some v) = signs v.mode && nat_lt v.sp (wp + 1)
 
 -- the seats that hold back, as a set: the first in the lowest bit
-abbrev pub holding : ℕ → List (Option View) → ℕ
-holding wp [] = 0
-holding wp (o ∷ os) = cond (holds_back wp o) 1 0 + 2 * holding wp os
+abbrev pub holder_set : ℕ → List (Option View) → ℕ
+holder_set wp [] = 0
+holder_set wp (o ∷ os) = cond (holds_back wp o) 1 0 + 2 * holder_set wp os
 
 -- bit k of the set is station k's
 abbrev pub BitsOf : ℕ → ℕ → List (Option View) → Type 0
@@ -26,5 +26,5 @@ BitsOf set wp seats = (k : ℕ) → set / 2 ^ k % 2 ≡ cond (holds_back wp (sli
 -- what a waiter is told, or why not: its set of holders, with the count of ones
 abbrev pub holders_of : List (Option View) → ℕ → Result (ℕ × ℕ) Refusal
 holders_of seats waiter =
-    let set : ℕ = holding (view_of (slice_index_or seats waiter None)).wp seats in
+    let set : ℕ = holder_set (view_of (slice_index_or seats waiter None)).wp seats in
     answer_by (verdict (entry_rules seats waiter verb.Wait)) (set, count_ones set)

@@ -1,4 +1,3 @@
 pub mod Entry
 pub mod Board
-pub mod Play
 pub mod Holders

@@ -1,7 +1,7 @@
 //! The numbers that stations have.
-ghost use Rattle.std.specs.Prelude.{◌≡◌, ◌<◌, Ok, Err, MatchResult};
-ghost use Rattle.refusal.specs.Limits.{stations};
-ghost use Rattle.refusal.specs.Rules.{verdict};
+ghost use Rattle.std.specs.Prelude.{◌≡◌, ◌<◌};
+ghost use Rattle.refusal.specs.declared.limits.TheConstants.{STATIONS};
+ghost use Rattle.refusal.specs.Rules.{DecidedBy};
 ghost use Rattle.board.specs.Entry.{board_rules};
 
 use refusal::Refusal;
@@ -11,13 +11,13 @@ use refusal::limits::STATIONS;
 #[derive(Clone, Copy)]
 pub(crate) struct Station {
     pub(crate) number: u8,
-    ghost known: { number < stations },
+    ghost known: { number < STATIONS },
 }
 
 impl TryFrom<u8> for Station {
     type Error = Refusal;
 
-    ghost try_from_gives = { λ n r. MatchResult r (λ s. (verdict (board_rules n) ≡ Ok tt) × (s.number ≡ n)) (λ refusal. verdict (board_rules n) ≡ Err refusal) };
+    ghost try_from_gives = { λ n answer. DecidedBy (board_rules n) answer (λ s. s.number ≡ n) };
 
     fn try_from(number: u8) -> Result<Station, Refusal> {
         if number >= STATIONS {

@@ -1,10 +1,10 @@
 //! Whose turn it is: what a member may sign, send and wait for.
 ghost use Rattle.std.specs.Prelude.{◌≡◌};
-ghost use Rattle.history.specs.Limits.{is_sw};
-ghost use Rattle.board.specs.Entry.{next_pass, next_signed, next_observed};
+ghost use Rattle.phaser.specs.Limits.{is_sw};
+ghost use Rattle.board.specs.Entry.{next_pass, pass_to_sign, pass_to_observe};
 
 use crate::members::Member;
-use phaser::Mode;
+use calls::Mode;
 use refusal::Refusal;
 use refusal::limits::LAST_PASS;
 
@@ -30,7 +30,7 @@ impl Member {
 
     /// The pass that it would sign, or send for, next.
     pub(crate) fn next_to_sign(self) -> Result<u32, Refusal>
-        ensures { result ≡ next_signed self.view self.station.number }
+        ensures { result ≡ pass_to_sign self.view self.station.number }
     {
         let view = self.view;
         if in_turn(view.mode) && u64::from(view.sp) == u64::from(view.wp) + 1 {
@@ -43,7 +43,7 @@ impl Member {
 
     /// The pass that it would observe next.
     pub(crate) fn next_to_observe(self) -> Result<u32, Refusal>
-        ensures { result ≡ next_observed self.view self.station.number }
+        ensures { result ≡ pass_to_observe self.view self.station.number }
     {
         let view = self.view;
         if in_turn(view.mode) && view.sp == view.wp {

@@ -2,15 +2,12 @@
 
 #![tactic(auto)]
 
-use accumulator::eager::Eager;
-use board::board::Board;
-use board::calls::play;
-use joining::kinds::CoilRecord;
-use phaser::Mode;
-use playlog::calls::calls_of;
-use playlog::outcome::outcomes_of;
-use report::{lines, report};
-use shiftlog::log::Log;
+use accumulator::Eager;
+use board::{Board, play};
+use calls::Mode;
+use joining::CoilRecord;
+use playlog::{calls_of, lines, outcomes_of, report};
+use shiftlog::Log;
 use std::fs;
 
 /// How often `signals.log`, with its 999 signals, is played: station 1 has then signed every pass there is.
@@ -54,7 +51,7 @@ fn show(rt: &HostRuntime, name: &str) -> anyhow::Result<()> {
 fn play_on(
     rt: &HostRuntime,
     board: &mut Board<Eager<CoilRecord>>,
-    log: Log<'_>,
+    log: &Log<'_>,
 ) -> anyhow::Result<String> {
     let steps = log.steps(rt.alloc())?;
     let calls = calls_of(rt.alloc(), steps.as_slice())?;
@@ -71,9 +68,9 @@ fn show_limits(rt: &HostRuntime) -> anyhow::Result<()> {
     let limits = Log::check(limits.as_slice())?;
     let mut board = Board::new(0, Mode::SignalWait, Eager::new(2));
     for _ in 0..ROUNDS {
-        play_on(rt, &mut board, signals)?;
+        play_on(rt, &mut board, &signals)?;
     }
-    let text = play_on(rt, &mut board, limits)?;
+    let text = play_on(rt, &mut board, &limits)?;
     let text = text.as_str();
     print!(rt; "== limits\n{text}")?;
     Ok(())

@@ -1,28 +1,26 @@
--- Tickets in the hands of stations, and that they stay true from call to call. Assumes nothing.
+-- Tickets in the hands of their stations, and that they tell the truth from call to call.
 use Rattle.std.specs.Prelude.{◌≡◌, ◌≢◌, ℕ}
-use Rattle.joining.specs.declared.kinds.CoilRecord.{CoilRecord}
-use Rattle.accumulator.specs.Meaning.{Meaning}
-use Rattle.history.specs.State.{State}
-use Rattle.ticket.specs.declared.ticket.AnyTicket.{AnyTicket}
-use Rattle.ticket.specs.Calls.{state_on, kind_in, station_in}
+use Rattle.phaser.specs.State.{State}
+use Rattle.ticket.specs.declared.tickets.AnyTicket.{AnyTicket}
+use Rattle.ticket.specs.Calls.{kind_in, station_in}
 use Rattle.ticket.specs.Truth.{Truthful}
-use Rattle.hall.specs.declared.coil.Coil.{Coil}
-use Rattle.hall.specs.declared.crew.Crew.{Crew}
 
--- the state of the coil's board
-abbrev pub on : {A : Type 0} → (A → Meaning CoilRecord) → Coil A → State CoilRecord
-on meaning coil = state_on meaning coil.board
+module _ {V : Type 0} where
+  -- on s the ticket tells the truth of its station
+  unfoldable pub IsTruthful : State V → AnyTicket → Type 0
+  IsTruthful s ticket = Truthful s (station_in ticket) (kind_in ticket)
 
--- on s the ticket of station k tells the truth
-pub record InHand {V : Type 0} (s : State V) (k : ℕ) (ticket : AnyTicket) : Type 0 where
-  pub own : station_in ticket ≡ k
-  pub truth : Truthful s k (kind_in ticket)
+  -- from s to t only this ticket's station acts: the tickets of others stay truthful
+  abbrev pub OnlyActs : State V → AnyTicket → State V → Type 0
+  OnlyActs s ticket t = (other : AnyTicket) → station_in other ≢ station_in ticket → IsTruthful s other → IsTruthful t other
 
--- from s to t only station j acts: the other stations' tickets tell the truth still
-abbrev pub OnlyActs : {V : Type 0} → State V → ℕ → State V → Type 0
-OnlyActs s j t = (k : ℕ) (ticket : AnyTicket) → k ≢ j → InHand s k ticket → InHand t k ticket
+  -- on s station k has this ticket in hand, and it tells the truth
+  pub record InHand (s : State V) (k : ℕ) (ticket : AnyTicket) : Type 0 where
+    pub own : station_in ticket ≡ k
+    pub truth : IsTruthful s ticket
 
-pub record CrewTrue {V : Type 0} (s : State V) (crew : Crew) : Type 0 where
-  pub first : InHand s 0 crew.first
-  pub second : InHand s 1 crew.second
-  pub reel : InHand s 2 crew.reel
+  -- the same of the stations 0, 1 and 2
+  pub record CrewInHand (s : State V) (tickets : AnyTicket × AnyTicket × AnyTicket) : Type 0 where
+    pub first : InHand s 0 tickets.0
+    pub second : InHand s 1 tickets.1
+    pub reel : InHand s 2 tickets.2

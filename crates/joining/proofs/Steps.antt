@@ -1,28 +1,28 @@
--- The cells of a list in equal steps: after those that are skipped, by their places, and after a write. Assumes nothing.
+-- The cells of a list in equal steps: after those that are skipped, by their places, and after a write.
 use Rattle.std.proofs.Common.{◌≡◌, ℕ, zero, suc, ◌+◌, ◌-◌, ◌*◌, ◌<◌, ◌≤◌, ◌≢◌, List, [], ◌∷◌, ◌++◌, length, get_or, drop, set, refl, ap, ◌∙◌, suc-mul, zero-mul, arith}
-use Rattle.joining.specs.Every.{taken, every}
+use Rattle.joining.specs.Every.{cells_after, cells_in_steps}
 
 module _ {V : Type 0} where
   -- what is skipped may be dropped before
-  pub taken_dropped : (xs : List V) (skip gap : ℕ) → taken 0 gap (drop skip xs) ≡ taken skip gap xs
+  pub taken_dropped : (xs : List V) (skip gap : ℕ) → cells_after 0 gap (drop skip xs) ≡ cells_after skip gap xs
   taken_dropped xs zero gap = refl
   taken_dropped [] (suc skip) gap = refl
   taken_dropped (x ∷ xs) (suc skip) gap = taken_dropped xs skip gap
 
   -- after so many others comes the one that is taken
-  pub taken_after : (front ys : List V) (skip gap : ℕ) (y : V) → length front ≡ skip → taken skip gap (front ++ y ∷ ys) ≡ y ∷ taken gap gap ys
+  pub taken_after : (front ys : List V) (skip gap : ℕ) (y : V) → length front ≡ skip → cells_after skip gap (front ++ y ∷ ys) ≡ y ∷ cells_after gap gap ys
   taken_after [] ys zero gap y e = refl
   taken_after [] ys (suc skip) gap y e = absurd (omega arith)
   taken_after (x ∷ front) ys zero gap y e = absurd (omega arith)
   taken_after (x ∷ front) ys (suc skip) gap y e = taken_after front ys skip gap y (omega arith)
 
-  pub taken_past : (xs : List V) (i gap : ℕ) → length xs ≤ i → taken i gap xs ≡ []
+  pub taken_past : (xs : List V) (i gap : ℕ) → length xs ≤ i → cells_after i gap xs ≡ []
   taken_past [] i gap h = refl
   taken_past (x ∷ xs) zero gap h = absurd (omega arith)
   taken_past (x ∷ xs) (suc i) gap h = taken_past xs i gap (omega arith)
 
   -- the k-th that is taken is the cell at i, and a write to that cell is one to it
-  taken_at : (xs : List V) (skip gap k i : ℕ) → i ≡ skip + k * suc gap → ((d : V) → get_or (taken skip gap xs) k d ≡ get_or xs i d) × ((v : V) → taken skip gap (set xs i v) ≡ set (taken skip gap xs) k v) × (i < length xs → k < length (taken skip gap xs))
+  taken_at : (xs : List V) (skip gap k i : ℕ) → i ≡ skip + k * suc gap → ((d : V) → get_or (cells_after skip gap xs) k d ≡ get_or xs i d) × ((v : V) → cells_after skip gap (set xs i v) ≡ set (cells_after skip gap xs) k v) × (i < length xs → k < length (cells_after skip gap xs))
   taken_at [] skip gap k i e = (λ d. refl, λ v. refl, λ h. absurd (omega arith))
   taken_at (x ∷ xs) zero gap zero zero e = (λ d. refl, λ v. refl, λ h. omega arith)
   taken_at (x ∷ xs) zero gap zero (suc i) e = absurd (omega (arith, zero-mul (suc gap)))
@@ -35,7 +35,7 @@ module _ {V : Type 0} where
       let rest = taken_at xs skip gap k i (omega arith) in
       (rest.0, rest.1, λ h. rest.2 (omega arith))
 
-  taken_other : (xs : List V) (skip gap i : ℕ) (v : V) → ((k : ℕ) → i ≢ skip + k * suc gap) → taken skip gap (set xs i v) ≡ taken skip gap xs
+  taken_other : (xs : List V) (skip gap i : ℕ) (v : V) → ((k : ℕ) → i ≢ skip + k * suc gap) → cells_after skip gap (set xs i v) ≡ cells_after skip gap xs
   taken_other [] skip gap i v none = refl
   taken_other (x ∷ xs) zero gap zero v none = absurd (none 0 (omega (arith, zero-mul (suc gap))))
   taken_other (x ∷ xs) zero gap (suc i) v none = ap (λ ys. x ∷ ys) (taken_other xs gap gap i v (λ k e. none (suc k) (omega (arith, suc-mul k (suc gap)))))
@@ -48,16 +48,16 @@ module _ {V : Type 0} where
         let same : step ≡ suc (step - 1) = omega arith in
         e ∙ ap (λ s. start + k * s) same
 
-    pub every_at : (k i : ℕ) (d : V) → i ≡ start + k * step → get_or (every start step xs) k d ≡ get_or xs i d
+    pub every_at : (k i : ℕ) (d : V) → i ≡ start + k * step → get_or (cells_in_steps start step xs) k d ≡ get_or xs i d
     every_at k i d e = (taken_at xs start (step - 1) k i (stride k i e)).0 d
 
-    pub every_set : (k i : ℕ) (v : V) → i ≡ start + k * step → every start step (set xs i v) ≡ set (every start step xs) k v
+    pub every_set : (k i : ℕ) (v : V) → i ≡ start + k * step → cells_in_steps start step (set xs i v) ≡ set (cells_in_steps start step xs) k v
     every_set k i v e = (taken_at xs start (step - 1) k i (stride k i e)).1 v
 
-    pub every_within : (k i : ℕ) → i ≡ start + k * step → i < length xs → k < length (every start step xs)
+    pub every_within : (k i : ℕ) → i ≡ start + k * step → i < length xs → k < length (cells_in_steps start step xs)
     every_within k i e h = (taken_at xs start (step - 1) k i (stride k i e)).2 h
 
-    pub every_other : (i : ℕ) (v : V) → ((k : ℕ) → i ≢ start + k * step) → every start step (set xs i v) ≡ every start step xs
+    pub every_other : (i : ℕ) (v : V) → ((k : ℕ) → i ≢ start + k * step) → cells_in_steps start step (set xs i v) ≡ cells_in_steps start step xs
     every_other i v none =
         let same : suc (step - 1) ≡ step = omega arith in
         taken_other xs start (step - 1) i v (λ k e. none k (e ∙ ap (λ s. start + k * s) same))

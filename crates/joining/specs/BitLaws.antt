@@ -1,4 +1,4 @@
--- Numbers are a commutative monoid under inclusive and under exclusive or. Assumes nothing.
+-- Numbers are a commutative monoid under inclusive and under exclusive or.
 use Rattle.std.specs.Prelude.{◌≡◌, ℕ, ◌/◌, ◌%◌, max, bit_or, bit_xor, refl}
 use Rattle.std.proofs.Common.{arith}
 use Rattle.std.proofs.Math.Arith.{bin_ind}
@@ -21,7 +21,7 @@ or_assoc =
     omega (arith, high, or_step (bit_or n b) c, or_step n (bit_or b c), or_low n b, or_low b c))
 
 pub or_laws : CommutativeMonoid 0 bit_or
-or_laws = (record { assoc = or_assoc; left = λ x. refl }, or_comm)
+or_laws = record { associative = or_assoc; commutative = or_comm; neutral_left = λ x. refl }
 
 pub xor_laws : CommutativeMonoid 0 bit_xor
-xor_laws = (record { assoc = xor_assoc; left = λ x. refl }, xor_comm)
+xor_laws = record { associative = xor_assoc; commutative = xor_comm; neutral_left = λ x. refl }

@@ -1,4 +1,4 @@
--- The range of a deviation: the one place of the specification that has its width. Assumes nothing.
+-- The range of a deviation: the one place of the specification that has its width.
 use Rattle.std.specs.Prelude.{ℕ, ◌-◌, ◌^◌, ◌<◌, ℤ, pos, negsuc}
 use Rattle.std.proofs.Common.{arith}
 use Rattle.std.specs.Int.Signed.{mag}

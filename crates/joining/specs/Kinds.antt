@@ -1,4 +1,4 @@
--- Each kind: its values from plain numbers, its neutral value and its join. Assumes nothing.
+-- Each kind: its values from plain numbers, its neutral value and its join.
 -- A length and extremes are made of any number: one within the width is kept, and one past it is brought in.
 use Rattle.std.specs.Prelude.{ℕ, ◌+◌, ◌%◌, ◌^◌, ◌<◌, ℤ, bit_or}
 use Rattle.std.proofs.Common.{arith}
@@ -20,16 +20,16 @@ length_of n = record { run = n % 2 ^ 64; fits = low_fits n }
 abbrev pub no_length : Length
 no_length = length_of 0
 
-abbrev pub longer : Length → Length → Length
-longer x y = length_of ((x.run + y.run) % 2 ^ 64)
+abbrev pub joint_length : Length → Length → Length
+joint_length x y = length_of ((x.run + y.run) % 2 ^ 64)
 
 -- ---- bits: joined by a rule, as marks by inclusive or and toggles by exclusive or
 
 abbrev pub bits_of : {R : Type 0} → ℕ → Bits R
 bits_of n = record { bits = n; rule = record {} }
 
-abbrev pub bitwise : {R : Type 0} → (ℕ → ℕ → ℕ) → Bits R → Bits R → Bits R
-bitwise operation x y = bits_of (operation x.bits y.bits)
+abbrev pub joint_bits : {R : Type 0} → (ℕ → ℕ → ℕ) → Bits R → Bits R → Bits R
+joint_bits operation x y = bits_of (operation x.bits y.bits)
 
 -- ---- extremes: the smaller and the larger
 
@@ -39,8 +39,8 @@ extremes_of low high = record { thinnest = nearest low; thickest = nearest high;
 abbrev pub no_extremes : Extremes
 no_extremes = extremes_of largest smallest
 
-abbrev pub wider : Extremes → Extremes → Extremes
-wider x y = extremes_of (int_min x.thinnest y.thinnest) (int_max x.thickest y.thickest)
+abbrev pub joint_extremes : Extremes → Extremes → Extremes
+joint_extremes x y = extremes_of (int_min x.thinnest y.thinnest) (int_max x.thickest y.thickest)
 
 -- ---- coil record: side by side
 
@@ -51,5 +51,5 @@ reading_of length deviation marks = record { length = length_of length; extremes
 abbrev pub no_record : CoilRecord
 no_record = record { length = no_length; extremes = no_extremes; marks = bits_of 0 }
 
-abbrev pub side_by_side : CoilRecord → CoilRecord → CoilRecord
-side_by_side x y = record { length = longer x.length y.length; extremes = wider x.extremes y.extremes; marks = bitwise bit_or x.marks y.marks }
+abbrev pub joint_record : CoilRecord → CoilRecord → CoilRecord
+joint_record x y = record { length = joint_length x.length y.length; extremes = joint_extremes x.extremes y.extremes; marks = joint_bits bit_or x.marks y.marks }

@@ -2,6 +2,7 @@ pub mod Deviation
 pub mod Every
 pub mod Kinds
 pub mod Laws
+pub mod Lists
 pub mod BitLaws
 pub mod KindLaws
 pub mod Same

@@ -1,4 +1,4 @@
--- Values of a kind are the same when their fields are: a ghost field has one proof at most. Assumes nothing.
+-- Values of a kind are the same when their fields are: a ghost field has one proof at most.
 use Rattle.std.specs.Prelude.{◌≡◌, ◌^◌, ◌<◌, ℤ, pos, negsuc}
 use Rattle.std.proofs.Common.{ap, arith}
 use mathlib.Core.HLevel.{is_prop→PathP}

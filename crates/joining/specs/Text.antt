@@ -1,4 +1,4 @@
--- Coil records as they are printed. Assumes nothing.
+-- Coil records as they are printed.
 use Rattle.std.specs.Prelude.{ℕ, List, ◌++◌, codes, decimal}
 use Rattle.std.specs.Fmt.{signed_decimal}
 use Rattle.joining.specs.declared.kinds.CoilRecord.{CoilRecord}

@@ -1,18 +1,18 @@
 //! How each kind is joined.
-ghost use Rattle.joining.specs.Kinds.{no_length, longer};
-ghost use Rattle.joining.specs.Kinds.{bits_of, bitwise};
-ghost use Rattle.joining.specs.Kinds.{no_extremes, wider};
-ghost use Rattle.joining.specs.Kinds.{no_record, side_by_side};
+ghost use Rattle.joining.specs.Kinds.{no_length, joint_length};
+ghost use Rattle.joining.specs.Kinds.{bits_of, joint_bits};
+ghost use Rattle.joining.specs.Kinds.{no_extremes, joint_extremes};
+ghost use Rattle.joining.specs.Kinds.{no_record, joint_record};
 ghost use Rattle.joining.specs.KindLaws.{length_laws, bits_laws, extremes_laws, record_laws};
 
 use crate::Joining;
-use crate::bitwise::Bitwise;
+use crate::bit_rules::Bitwise;
 use crate::kinds::{Bits, CoilRecord, Deviation, Extremes, Length, Marks};
 
 impl Joining for Length {
     ghost neutral = { no_length };
 
-    ghost joined = { longer };
+    ghost joined = { joint_length };
 
     ghost laws = { length_laws };
 
@@ -28,7 +28,7 @@ impl Joining for Length {
 impl<R: Bitwise> Joining for Bits<R> {
     ghost neutral = { bits_of 0 };
 
-    ghost joined = { bitwise R.operation };
+    ghost joined = { joint_bits R.operation };
 
     ghost laws = { bits_laws R.laws };
 
@@ -44,7 +44,7 @@ impl<R: Bitwise> Joining for Bits<R> {
 impl Joining for Extremes {
     ghost neutral = { no_extremes };
 
-    ghost joined = { wider };
+    ghost joined = { joint_extremes };
 
     ghost laws = { extremes_laws };
 
@@ -63,7 +63,7 @@ impl Joining for Extremes {
 impl Joining for CoilRecord {
     ghost neutral = { no_record };
 
-    ghost joined = { side_by_side };
+    ghost joined = { joint_record };
 
     ghost laws = { record_laws };
 

@@ -2,7 +2,7 @@
 ghost use Rattle.std.specs.Prelude.{◌^◌, ◌<◌};
 ghost use Rattle.joining.specs.Deviation.{InRange};
 
-use crate::bitwise::{Exclusive, Inclusive};
+use crate::bit_rules::{Exclusive, Inclusive};
 use std::marker::PhantomData;
 
 /// How far a thickness lies from the wanted one, in micrometres.

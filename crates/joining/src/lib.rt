@@ -3,20 +3,23 @@
 #![tactic(auto)]
 
 ghost use Rattle.std.specs.Prelude.{◌≡◌};
-ghost use Rattle.joining.specs.Laws.{LeftMonoid, Commutes};
+ghost use Rattle.joining.specs.Laws.{CommutativeMonoid};
 
-pub mod bitwise;
-pub mod fold;
-pub mod joins;
-pub mod kinds;
-pub mod text;
-pub mod values;
+mod bit_rules;
+mod fold;
+mod joins;
+mod kinds;
+mod text;
+mod values;
+
+pub use bit_rules::{Bitwise, Exclusive, Inclusive};
+pub use fold::{join_every, joining_laws};
+pub use kinds::{Bits, CoilRecord, Deviation, Extremes, Length, Marks, Toggles};
 
 /// A commutative monoid: a neutral value, and a join that keeps the three laws.
 pub trait Joining: Sized {
     ghost neutral: { Self };
 
-    // Two members and no pair, so that definitions read `join x y` and not a field of one.
     ghost joined: { Self → Self → Self };
 
     /// The value that changes nothing it is joined to.
@@ -27,8 +30,5 @@ pub trait Joining: Sized {
     fn join(self, other: Self) -> Self
         ensures { result ≡ joined self other };
 
-    ghost laws: { LeftMonoid neutral joined × Commutes joined };
+    ghost laws: { CommutativeMonoid neutral joined };
 }
-
-#[cfg(test)]
-mod tests;

@@ -49,7 +49,6 @@ impl Extremes {
 
 impl CoilRecord {
     /// The record of one reading.
-    // Three numbers and no struct: a reading is of a log, and the joinings know no log, a rule of the project (docs/DECISIONS.md).
     pub fn of_reading(length: u32, deviation: Deviation, marks: u16) -> CoilRecord
         ensures value { result ≡ reading_of length deviation marks }
         ensures length { result.length.run ≡ length }

@@ -4,9 +4,9 @@
 
 use anyhow::bail;
 use shiftlog::form::MAX_LOG_LEN;
-use shiftlog::writing::write_log;
+use shiftlog::write_log;
 use std::io::{Read, Write};
-use steptext::lines::steps_of;
+use steptext::steps_of;
 
 fn run(rt: &HostRuntime) -> anyhow::Result<()> {
     let heap = rt.alloc();

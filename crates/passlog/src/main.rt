@@ -2,7 +2,7 @@
 
 #![tactic(auto)]
 
-use report::report;
+use playlog::report;
 use shiftlog::form::MAX_LOG_LEN;
 use std::io::{Read, Write};
 

@@ -1,5 +1,9 @@
-pub mod Calls
-pub mod Codes
 pub mod Tables
-pub mod Views
-pub mod Words
+pub mod State
+pub mod Rules
+pub mod Limits
+pub mod Steps
+pub mod Agreement
+pub mod Histories
+pub mod Law
+pub mod Accounts

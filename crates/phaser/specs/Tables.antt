@@ -1,10 +1,10 @@
--- Who may do what, in words, and what it means that a table says so. Assumes nothing.
+-- Who may do what, in words, and what it means that a table says so.
 use Rattle.std.specs.Prelude.{Bool, true, not, ◌&&◌, ◌||◌, List, [], ◌∷◌, map}
-use Rattle.phaser.specs.declared.Mode.{Mode}
-use Rattle.phaser.specs.declared.Mode.TheVariants.{SignalWait, SignalOnly, WaitOnly}
-use Rattle.phaser.specs.declared.Verb.{Verb}
-use Rattle.phaser.specs.declared.Verb.TheVariants.{Register, Signal, Wait, Drop, Send, Result, View}
-use Rattle.phaser.specs.Views.{signs, waits}
+use Rattle.calls.specs.declared.Mode.{Mode}
+use Rattle.calls.specs.declared.Mode.TheVariants.{SignalWait, SignalOnly, WaitOnly}
+use Rattle.calls.specs.declared.Verb.{Verb}
+use Rattle.calls.specs.declared.Verb.TheVariants.{Register, Signal, Wait, Drop, Send, Result, View}
+use Rattle.calls.specs.Views.{signs, waits}
 
 -- signalers signal, waiters wait, who does both sends and reads totals, and every member may do the rest
 abbrev pub allowed : Verb → Mode → Bool

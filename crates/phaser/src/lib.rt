@@ -1,64 +1,27 @@
-//! The phaser's vocabulary: the modes of its members, and its seven calls.
+//! The rules of a phaser with an accumulator, and the law of the record over every history of its calls.
 
 #![tactic(auto)]
 
-ghost use Rattle.phaser.specs.Words.{mode_text, verb_text};
-ghost use Rattle.std.specs.Prelude.{Some};
+ghost use Rattle.phaser.specs.Accounts.{AccountsOrderFree};
+ghost use Rattle.phaser.specs.Agreement.{RulesAgree};
+ghost use Rattle.phaser.specs.Law.{RecordsGoOn};
 
-use std::fmt;
+mod table;
 
-pub mod call;
-pub mod codes;
-pub mod table;
-pub mod view;
+use joining::Joining;
+pub use table::{brings, may, tables_stand};
 
-/// What a member may do. A signaler signs passes, and a waiter observes them.
-#[derive(Clone, Copy, Debug, PartialEq, Eq)]
-pub enum Mode {
-    /// Signs and waits, SW.
-    SignalWait,
-    /// Only signs, SO.
-    SignalOnly,
-    /// Only waits, WO.
-    WaitOnly,
-}
+/// A call is accepted just where its rule applies within the limits, wherever the views are sound.
+pub fn rules_agree<V: Joining>()
+    ensures { RulesAgree V.Joining }
+{}
 
-/// Which of the seven calls is made.
-#[derive(Clone, Copy, Debug, PartialEq, Eq)]
-pub enum Verb {
-    Register,
-    Signal,
-    Wait,
-    Drop,
-    Send,
-    Result,
-    View,
-}
+/// What calls are answered by the rules goes on a board's record, whoever makes them, and the law holds of the whole.
+pub fn records_go_on<V: Joining>()
+    ensures { RecordsGoOn V.Joining }
+{}
 
-impl fmt::Display for Mode {
-    ghost output = { λ m. Some (mode_text m) };
-
-    fn fmt<W: fmt::Write>(&self, f: &mut fmt::Formatter<W>) -> fmt::Result {
-        f.write_str(match self {
-            Mode::SignalWait => "SW",
-            Mode::SignalOnly => "SO",
-            Mode::WaitOnly => "WO",
-        })
-    }
-}
-
-impl fmt::Display for Verb {
-    ghost output = { λ v. Some (verb_text v) };
-
-    fn fmt<W: fmt::Write>(&self, f: &mut fmt::Formatter<W>) -> fmt::Result {
-        f.write_str(match self {
-            Verb::Register => "register",
-            Verb::Signal => "signal",
-            Verb::Wait => "wait",
-            Verb::Drop => "drop",
-            Verb::Send => "send",
-            Verb::Result => "result",
-            Verb::View => "view",
-        })
-    }
-}
+/// An account of who sent what for a pass hangs on no order, where the sends of different stations commute.
+pub fn accounts_order_free<V: Joining, A>()
+    ensures { AccountsOrderFree V.Joining A }
+{}

@@ -2,10 +2,9 @@
 ghost use Rattle.std.specs.Prelude.{◌≡◌};
 ghost use Rattle.phaser.specs.Tables.{allowed, admits, calls_by_modes, modes_by_newcomers};
 
-use crate::{Mode, Verb};
+use calls::{Mode, Verb};
 
 /// Which mode may make which call: a row for each call, a column for each mode.
-// Two constant tables, each with its own question: a rule of the project (docs/DECISIONS.md).
 const MAY: [[bool; 3]; 7] = [
     [true, true, true],
     [true, true, false],

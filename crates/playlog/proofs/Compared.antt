@@ -1,4 +1,4 @@
--- What derived comparisons decide. Assumes nothing.
+-- What derived comparisons decide.
 use Rattle.std.proofs.Common.{◌≡◌, Bool, true, ◌&&◌, Decides, Ok, Err, Result, eqb, ap, ◌∙◌, sym, rules}
 use Rattle.std.specs.Ordering.{int_eq}
 use Rattle.std.specs.Result.{result_eq}

@@ -1,3 +1,4 @@
 pub mod Played
 pub mod Numbered
 pub mod Compared
+pub mod Lawful

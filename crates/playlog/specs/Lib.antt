@@ -2,3 +2,4 @@ pub mod Calls
 pub mod Plays
 pub mod Outcomes
 pub mod Text
+pub mod Report

@@ -1,8 +1,8 @@
 //! Answers compared.
 ghost use Rattle.std.specs.Prelude.{◌≡◌, Decides};
 
-use joining::kinds::CoilRecord;
-use phaser::call::Answer;
+use calls::Answer;
+use joining::CoilRecord;
 use refusal::Refusal;
 
 /// Whether two lists of answers are the same.

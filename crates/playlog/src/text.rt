@@ -2,8 +2,8 @@
 ghost use Rattle.std.specs.Prelude.{Some};
 ghost use Rattle.playlog.specs.Text.{outcome_text};
 
-use crate::outcome::Outcome;
-use phaser::call::Answer;
+use crate::outcomes::Outcome;
+use calls::Answer;
 use std::fmt;
 
 impl fmt::Display for Outcome {

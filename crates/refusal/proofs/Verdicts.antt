@@ -1,4 +1,4 @@
--- The verdict of rules, part by part. Assumes nothing.
+-- The verdict of rules, part by part.
 use Rattle.std.proofs.Common.{◌≡◌, ℕ, Bool, true, false, cond, List, [], ◌∷◌, ◌++◌, Ok, Err, sym, refl, ap, ◌∙◌, arith}
 use Rattle.refusal.specs.declared.Refusal.{Refusal}
 use Rattle.refusal.specs.Rules.{Rule, Verdict, verdict, EveryRuleHolds}

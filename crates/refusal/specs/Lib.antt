@@ -1,4 +1,4 @@
 pub mod Refusals
 pub mod Rules
-pub mod Limits
 pub mod Text
+pub mod Trace

@@ -1,4 +1,4 @@
--- The number, the layer and the place of each refusal. Assumes nothing.
+-- The number, the layer and the place of each refusal.
 use Rattle.std.specs.Prelude.{ℕ}
 use Rattle.refusal.specs.declared.Layer.{Layer}
 use Rattle.refusal.specs.declared.Layer.TheVariants.{Maker, Log, Record, Board, Accumulator}

@@ -1,5 +1,5 @@
--- Rules that are tried in turn: the first broken one gives the refusal. Assumes nothing.
-use Rattle.std.specs.Prelude.{◌≡◌, Bool, true, cond, List, [], ◌∷◌, Ok, Err, Result}
+-- Rules that are tried in turn: the first broken one gives the refusal.
+use Rattle.std.specs.Prelude.{◌≡◌, Bool, true, cond, List, [], ◌∷◌, Ok, Err, Result, MatchResult}
 use Rattle.std.specs.List.{AllByRecursion}
 use Rattle.refusal.specs.declared.Refusal.{Refusal}
 
@@ -21,3 +21,7 @@ verdict (r ∷ rs) = cond r.holds (verdict rs) (Err r.otherwise)
 
 abbrev pub EveryRuleHolds : List Rule → Type 0
 EveryRuleHolds rules = AllByRecursion (λ r. r.holds ≡ true) rules
+
+-- the rules decide the answer: where each holds it is accepted, and P holds of it; else it is the refusal of the first broken one
+abbrev pub DecidedBy : {X : Type 0} → List Rule → Result X Refusal → (X → Type 0) → Type 0
+DecidedBy rules answer P = MatchResult answer (λ x. (verdict rules ≡ Ok tt) × P x) (λ refusal. verdict rules ≡ Err refusal)

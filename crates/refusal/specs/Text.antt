@@ -1,4 +1,4 @@
--- Refusals as they are printed. Assumes nothing.
+-- Refusals as they are printed.
 use Rattle.std.specs.Prelude.{ℕ, List, ◌++◌, codes, decimal}
 use Rattle.refusal.specs.declared.Refusal.{Refusal}
 use Rattle.refusal.specs.Refusals.{number, place}

@@ -63,7 +63,6 @@ pub enum Refusal {
 
 impl Refusal {
     /// The number by which the refusal is printed.
-    // A number, since it is what is printed: a rule of the project (docs/LOG-FORMAT.md).
     pub fn number(&self) -> u8
         ensures { result ≡ number self.now }
     {

@@ -1,4 +1,4 @@
--- The tests of a numeral, and what parsing says of it. Assumes nothing.
+-- The tests of a numeral, and what parsing says of it.
 use Rattle.std.proofs.Common.{◌≡◌, ℕ, ℤ, pos, negsuc, ◌^◌, ◌<◌, ◌&&◌, Bool, true, false, cond, nat_lt, List, [], ◌∷◌, length, Ok, Err, Result, refl, ap, ◌∙◌, arith}
 use mir.Syntax.{w16}
 use mir.Val.{SFits}
@@ -8,9 +8,9 @@ use Rattle.std.specs.Result.{OkIff, MatchResult}
 use Rattle.std.specs.Str.Parse.{AllDigits, IsNumeral, ParsesUnsigned, ParsesSigned, digits_value, signed_digits_value, without_leading_plus, without_leading_sign}
 use Rattle.std.proofs.lemmas.Bool.{and_parts, false≢true}
 use Rattle.std.proofs.lemmas.Bool.Decides.{nat_tests}
-use Rattle.steptext.specs.Words.{numeral, number_said, reach, deviation_said}
-use Rattle.steptext.specs.declared.expected.Expected.{Expected}
-use Rattle.steptext.specs.declared.expected.Expected.TheVariants.{Deviation}
+use Rattle.steptext.specs.Words.{numeral, word_number, reach, word_deviation}
+use Rattle.steptext.specs.declared.expectations.Expected.{Expected}
+use Rattle.steptext.specs.declared.expectations.Expected.TheVariants.{Deviation}
 
 abbrev is_digit : ℕ → Bool
 is_digit c = nat_lt (digit_value c) 10
@@ -56,7 +56,7 @@ chosen (Err d) s v e true h to from m = absurd (h (from refl))
 chosen (Err d) s v e false h to from m = m
 
 -- a parsed number, with the error that stands for all others
-pub number_is : {E : Type 0} (bits : ℕ) (w : List ℕ) (r : Result ℕ E) (s : Result ℕ Expected) (e : Expected) → ParsesUnsigned bits 10 w r → MatchResult r (λ x. s ≡ Ok x) (λ _. s ≡ Err e) → s ≡ number_said bits e w
+pub number_is : {E : Type 0} (bits : ℕ) (w : List ℕ) (r : Result ℕ E) (s : Result ℕ Expected) (e : Expected) → ParsesUnsigned bits 10 w r → MatchResult r (λ x. s ≡ Ok x) (λ _. s ≡ Err e) → s ≡ word_number bits e w
 number_is bits w r s e h m = chosen r s (digits_value 10 (without_leading_plus w)) e (fits bits (without_leading_plus w)) h (fits_if bits (without_leading_plus w)) (if_fits bits (without_leading_plus w)) m
 
 reach_if : (z : ℤ) → SFits w16 z → reach z < 2 ^ 15
@@ -87,5 +87,5 @@ if_signed w h =
     let small = p.1 in
     ((grind (arith, nat_tests), all_digits (without_leading_sign w) q.1), if_reach (signed_digits_value 10 w) (grind (arith, nat_tests)))
 
-pub deviation_is : {E : Type 0} (w : List ℕ) (r : Result ℤ E) (s : Result ℤ Expected) → ParsesSigned w16 10 w r → MatchResult r (λ x. s ≡ Ok x) (λ _. s ≡ Err Deviation) → s ≡ deviation_said w
+pub deviation_is : {E : Type 0} (w : List ℕ) (r : Result ℤ E) (s : Result ℤ Expected) → ParsesSigned w16 10 w r → MatchResult r (λ x. s ≡ Ok x) (λ _. s ≡ Err Deviation) → s ≡ word_deviation w
 deviation_is w r s h m = chosen r s (signed_digits_value 10 w) Deviation (fits_signed w) h (signed_if w) (if_signed w) m

@@ -1,8 +1,8 @@
--- The words for what was expected. Assumes nothing.
+-- The words for what was expected.
 use Rattle.std.specs.Prelude.{ℕ, List, ◌++◌, codes, decimal}
-use Rattle.steptext.specs.declared.expected.Expected.{Expected}
+use Rattle.steptext.specs.declared.expectations.Expected.{Expected}
 use Rattle.steptext.specs.declared.lines.BadLine.{BadLine}
-use Rattle.steptext.specs.declared.expected.Expected.TheVariants.{Verb, Station, Mode, Length, Deviation, Marks, End}
+use Rattle.steptext.specs.declared.expectations.Expected.TheVariants.{Verb, Station, Mode, Length, Deviation, Marks, End}
 
 abbrev pub expected_text : Expected → List ℕ
 expected_text Verb = codes "register, signal, wait, drop, send, result or view"

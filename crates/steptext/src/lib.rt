@@ -2,9 +2,11 @@
 
 #![tactic(auto)]
 
-pub mod expected;
-pub mod line;
-pub mod lines;
-#[cfg(test)]
-mod tests;
+mod expectations;
+mod line;
+mod lines;
 mod words;
+
+pub use expectations::Expected;
+pub use line::step_of;
+pub use lines::{BadLine, steps_of};

@@ -1,4 +1,4 @@
--- A call that stands on a ticket that tells the truth is made by a member in its turn. Assumes nothing.
+-- A call that stands on a ticket that tells the truth is made by a member in its turn.
 use Rattle.std.proofs.Common.{◌≡◌, ℕ, ◌+◌, Bool, true, false, cond, eqb, ◌⊎◌, List, [], ◌∷◌, ◌++◌, is_some, Err, ◌≢◌, sym, refl, ◌∙◌, inl, inr, ⊎_elim, arith}
 use Rattle.std.proofs.lemmas.Bool.{and_parts, eqb-false, false≢true}
 use Rattle.refusal.specs.declared.Refusal.{Refusal}
@@ -7,23 +7,23 @@ use Rattle.refusal.specs.Refusals.{number}
 use Rattle.refusal.specs.Rules.{Rule, rule, verdict}
 use Rattle.std.specs.List.{AllByRecursion}
 use Rattle.accumulator.specs.Window.{move_on_rules}
-use Rattle.phaser.specs.declared.Mode.TheVariants.{SignalWait}
-use Rattle.phaser.specs.declared.Verb.{Verb}
-use Rattle.phaser.specs.declared.Verb.TheVariants as verb
-use Rattle.phaser.specs.declared.view.View.{View}
-use Rattle.phaser.specs.declared.call.Action.{Action}
-use Rattle.phaser.specs.declared.call.Action.TheVariants.{Register, Signal, Wait, Drop, Send, Result as AskResult, View as AskView}
-use Rattle.phaser.specs.Calls.{verb_in}
+use Rattle.calls.specs.declared.Mode.TheVariants.{SignalWait}
+use Rattle.calls.specs.declared.Verb.{Verb}
+use Rattle.calls.specs.declared.Verb.TheVariants as verb
+use Rattle.calls.specs.declared.views.View.{View}
+use Rattle.calls.specs.declared.actions.Action.{Action}
+use Rattle.calls.specs.declared.actions.Action.TheVariants.{Register, Signal, Wait, Drop, Send, Result as AskResult, View as AskView}
+use Rattle.calls.specs.Calls.{verb_in}
 use Rattle.phaser.specs.Tables.{allowed}
-use Rattle.history.specs.State.{State, seat}
-use Rattle.history.specs.Limits.{reaches}
-use Rattle.history.specs.Steps.{sign_turn, wait_turn, all_signed, rules}
-use Rattle.history.proofs.Fine.{Fine, fine_verdict}
-use Rattle.history.proofs.Seats.{true_false}
-use Rattle.history.proofs.Turns.{may_sign, may_wait}
-use Rattle.ticket.specs.declared.kind.Kind.{Kind}
-use Rattle.ticket.specs.declared.kind.Kind.TheVariants.{Open, Signed, SignOnly, WaitOnly}
-use Rattle.ticket.specs.Kinds.{mode_of, Tells, has_turn, offers}
+use Rattle.phaser.specs.State.{State, seat}
+use Rattle.phaser.specs.Limits.{reaches}
+use Rattle.phaser.specs.Steps.{sign_turn, wait_turn, all_signed, rules}
+use Rattle.phaser.proofs.Fine.{Fine, fine_verdict}
+use Rattle.phaser.proofs.Seats.{true_false}
+use Rattle.phaser.proofs.Turns.{may_sign, may_wait}
+use Rattle.ticket_kinds.specs.declared.Kind.{Kind}
+use Rattle.ticket_kinds.specs.declared.Kind.TheVariants.{Open, Signed, SignOnly, WaitOnly}
+use Rattle.ticket_kinds.specs.Kinds.{mode_of, Tells, has_turn, offers}
 use Rattle.ticket.specs.Truth.{MayCome}
 
 turn_from : (kind : Kind) (v : Verb) → offers kind v ≡ true → has_turn kind v ≡ true

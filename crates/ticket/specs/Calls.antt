@@ -1,19 +1,10 @@
--- Calls on tickets beside calls by number. Assumes nothing.
+-- Calls on tickets beside calls by number.
 use Rattle.std.specs.Prelude.{◌≡◌, ℕ, Ok, Err, Result, MatchResult}
 use Rattle.refusal.specs.declared.Refusal.{Refusal}
-use Rattle.accumulator.specs.Meaning.{Meaning}
-use Rattle.history.specs.State.{State}
-use Rattle.board.specs.Board.{board_state}
-use Rattle.ticket.specs.declared.kind.Kind.{Kind}
-use Rattle.ticket.specs.declared.kind.Kind.TheVariants as kind
-use Rattle.ticket.specs.declared.ticket.Ticket.{Ticket}
-use Rattle.ticket.specs.declared.ticket.AnyTicket.{AnyTicket}
-use Rattle.ticket.specs.declared.ticket.AnyTicket.TheVariants as any
-use Rattle.ticket.specs.declared.ticket_board.TicketBoard.{TicketBoard}
-
--- the state of the board behind the tickets
-abbrev pub state_on : {V A : Type 0} → (A → Meaning V) → TicketBoard A V → State V
-state_on meaning b = board_state meaning b.board
+use Rattle.ticket_kinds.specs.declared.Kind.{Kind}
+use Rattle.ticket_kinds.specs.declared.Kind.TheVariants as kind
+use Rattle.ticket.specs.declared.tickets.AnyTicket.{AnyTicket}
+use Rattle.ticket.specs.declared.tickets.AnyTicket.TheVariants as any
 
 -- the answer as the call by number gives it: the refusal without the ticket that comes back
 abbrev pub by_number : {X T : Type 0} → Result X (Refusal × T) → Result X Refusal
@@ -26,8 +17,8 @@ without_ticket (Ok a) = Ok a.0
 without_ticket (Err e) = Err e.0
 
 -- an accepted call answers the next ticket of the same station, a refused one hands back the ticket that it took
-abbrev pub ComesBack : {X K L : Type 0} → ℕ → Ticket K → Result (X × Ticket L) (Refusal × Ticket K) → Type 0
-ComesBack station ticket r = MatchResult r (λ a. a.1.station ≡ station) (λ e. e.1 ≡ ticket)
+abbrev pub ComesBack : {X : Type 0} → ℕ → Result (X × ℕ) (Refusal × ℕ) → Type 0
+ComesBack station r = MatchResult r (λ a. a.1 ≡ station) (λ e. e.1 ≡ station)
 
 -- a ticket of any kind, by what it is
 abbrev pub kind_in : AnyTicket → Kind
@@ -37,10 +28,10 @@ kind_in (any.SignOnly t) = kind.SignOnly
 kind_in (any.WaitOnly t) = kind.WaitOnly
 
 abbrev pub station_in : AnyTicket → ℕ
-station_in (any.Open t) = t.station
-station_in (any.Signed t) = t.station
-station_in (any.SignOnly t) = t.station
-station_in (any.WaitOnly t) = t.station
+station_in (any.Open t) = t
+station_in (any.Signed t) = t
+station_in (any.SignOnly t) = t
+station_in (any.WaitOnly t) = t
 
 -- it is of this kind, for this station
 pub record IsTicket (kind : Kind) (station : ℕ) (ticket : AnyTicket) : Type 0 where

@@ -1,29 +1,31 @@
--- When tickets tell the truth of their stations, and that calls on tickets keep it so. Assumes nothing.
+-- When tickets tell the truth of their stations, and that calls on tickets keep it so.
 use Rattle.std.specs.Prelude.{◌≡◌, ℕ, ◌<◌, ◌≢◌, List, [], ◌∷◌, map, length, true, Some, None, Option, Ok, Err, Result, IsSome, IfSome, MatchResult}
+use Rattle.std.specs.List.{AllByRecursion}
 use Rattle.refusal.specs.declared.Refusal.{Refusal}
 use Rattle.refusal.specs.Refusals.{number}
-use Rattle.refusal.specs.Limits.{stations}
+use Rattle.refusal.specs.declared.limits.TheConstants.{STATIONS}
+use Rattle.refusal.specs.Trace.{trace}
+use Rattle.joining.specs.declared.Joining.{Ghosts}
 use Rattle.accumulator.specs.Meaning.{Meaning}
-use Rattle.phaser.specs.declared.Mode.{Mode}
-use Rattle.phaser.specs.declared.view.View.{View}
-use Rattle.phaser.specs.declared.call.Action.{Action}
-use Rattle.phaser.specs.declared.call.Action.TheVariants.{Register, Signal, Wait, Drop}
-use Rattle.phaser.specs.declared.call.Call.{Call}
-use Rattle.phaser.specs.declared.call.Answer.{Answer}
-use Rattle.phaser.specs.Calls.{verb_in}
-use Rattle.history.specs.State.{State, seat}
-use Rattle.history.specs.Rules.{put}
-use Rattle.history.specs.Steps.{step}
-use Rattle.history.specs.Histories.{history, final_state, EachRefusal}
-use Rattle.board.specs.Board.{made_on}
-use Rattle.ticket.specs.declared.kind.Kind.{Kind}
-use Rattle.ticket.specs.Kinds.{Tells, offers, first_kind, newcomer_kind, after_signing, after_waiting}
+use Rattle.calls.specs.declared.Mode.{Mode}
+use Rattle.calls.specs.declared.views.View.{View}
+use Rattle.calls.specs.declared.actions.Action.{Action}
+use Rattle.calls.specs.declared.actions.Action.TheVariants.{Register, Signal, Wait, Drop}
+use Rattle.calls.specs.declared.actions.Call.{Call}
+use Rattle.calls.specs.declared.actions.Answer.{Answer}
+use Rattle.calls.specs.Calls.{verb_in}
+use Rattle.phaser.specs.State.{State, seat}
+use Rattle.phaser.specs.Rules.{put}
+use Rattle.phaser.specs.Histories.{call_step, history, final_state, refusals}
+use Rattle.board.specs.Board.{new_state_on}
+use Rattle.ticket_kinds.specs.declared.Kind.{Kind}
+use Rattle.ticket_kinds.specs.Kinds.{Tells, offers, first_kind, newcomer_kind, after_signing, after_waiting}
 
 -- ---- one ticket
 
 -- on s, which has a seat for each station, a ticket of this kind for station j tells the truth
 pub record Truthful {V : Type 0} (s : State V) (j : ℕ) (kind : Kind) : Type 0 where
-  pub table : length s.members ≡ stations
+  pub table : length s.members ≡ STATIONS
   pub view : View
   pub member : seat s j ≡ Some view
   pub tells : Tells kind view
@@ -68,9 +70,9 @@ module _ {V : Type 0} where
   next_ticket kind x = Some kind
 
   -- the tickets after an accepted call by station j on a ticket of this kind
-  abbrev pub handed_out : Tickets → ℕ → Kind → Action V → Tickets
-  handed_out out j kind (Register other mode) = put out other (Some (newcomer_kind kind mode))
-  handed_out out j kind x = put out j (next_ticket kind x)
+  abbrev pub tickets_after : Tickets → ℕ → Kind → Action V → Tickets
+  tickets_after out j kind (Register other mode) = put out other (Some (newcomer_kind kind mode))
+  tickets_after out j kind x = put out j (next_ticket kind x)
 
   abbrev pub tickets_by : Result (Answer V) Refusal → Tickets → Tickets → Tickets
   tickets_by (Ok a) next out = next
@@ -84,28 +86,27 @@ module _ {V : Type 0} where
   abbrev pub calls_of : List (TicketCall V) → List (Call V)
   calls_of cs = map (λ c. c.call) cs
 
-  module _ (neutral : V) (join : V → V → V) where
-    -- the tickets after one call, and after many
-    abbrev pub tickets_after : State V → Tickets → TicketCall V → Tickets
-    tickets_after s out c = tickets_by (step neutral join s c.call.caller c.call.action).0 (handed_out out c.call.caller c.kind c.call.action) out
+  module _ (J : Ghosts V) where
+    -- what a call on a ticket is answered, and the board and the tickets after it
+    abbrev pub ticket_step : State V × Tickets → TicketCall V → Result (Answer V) Refusal × (State V × Tickets)
+    ticket_step t c = let a = call_step J t.0 c.call in (a.0, (a.1, tickets_by a.0 (tickets_after t.1 c.call.caller c.kind c.call.action) t.1))
 
     abbrev pub final_tickets : State V → Tickets → List (TicketCall V) → Tickets
-    final_tickets s out [] = out
-    final_tickets s out (c ∷ cs) = final_tickets (step neutral join s c.call.caller c.call.action).1 (tickets_after s out c) cs
+    final_tickets s out calls = (trace ticket_step (s, out) calls).1.1
 
     -- each call is made on a ticket that is out when it comes
     abbrev pub OnTickets : State V → Tickets → List (TicketCall V) → Type 0
     OnTickets s out [] = Unit {0}
-    OnTickets s out (c ∷ cs) = OnTicket out c × OnTickets (step neutral join s c.call.caller c.call.action).1 (tickets_after s out c) cs
+    OnTickets s out (c ∷ cs) = let next = (ticket_step (s, out) c).1 in OnTicket out c × OnTickets next.0 next.1 cs
 
     -- of calls on tickets: those that are out at the end tell the truth, and each refusal is one that may come
     pub record TruthKept (start : State V) (out : Tickets) (calls : List (TicketCall V)) : Type 0 where
-      pub truthful : AllTruthful (final_state neutral join start (calls_of calls)) (final_tickets start out calls)
-      pub refusals : EachRefusal MayCome (history neutral join start (calls_of calls))
+      pub truthful : AllTruthful (final_state J start (calls_of calls)) (final_tickets start out calls)
+      pub refusals : AllByRecursion MayCome (refusals (history J start (calls_of calls)))
 
     -- of every list of calls on tickets, on a board that its first member has just made on any accumulator
     abbrev pub TicketsTellTheTruth : Type 0
     TicketsTellTheTruth =
-        (first_member : ℕ) (mode : Mode) (account : Meaning V) → first_member < stations → (calls : List (TicketCall V)) →
-        let start : State V = made_on first_member mode account in
+        (first_member : ℕ) (mode : Mode) (account : Meaning V) → first_member < STATIONS → (calls : List (TicketCall V)) →
+        let start : State V = new_state_on first_member mode account in
         OnTickets start (first_ticket first_member mode) calls → TruthKept start (first_ticket first_member mode) calls

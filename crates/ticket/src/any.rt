@@ -1,18 +1,16 @@
 //! What a ticket of any kind may do, which is what every ticket may.
 ghost use Rattle.std.specs.Prelude.{◌≡◌, Some, None, ⊤, IfOk, OnOk, IsOk, MatchResult};
-ghost use Rattle.phaser.specs.declared.call.Action.TheVariants.{Register, Drop, View as AskView};
-ghost use Rattle.phaser.specs.declared.call.Answer.TheVariants.{Registered, Dropped, Viewed};
-ghost use Rattle.history.specs.Steps.{step};
-ghost use Rattle.board.specs.Board.{as_answer};
-ghost use Rattle.ticket.specs.Kinds.{newcomer_kind};
-ghost use Rattle.ticket.specs.Calls.{state_on, by_number, kind_in, station_in, IsTicket};
+ghost use Rattle.calls.specs.declared.actions.Action.TheVariants.{Register, Drop, View as AskView};
+ghost use Rattle.calls.specs.declared.actions.Answer.TheVariants.{Registered, Dropped, Viewed};
+ghost use Rattle.board.specs.Board.{as_answer, board_step};
+ghost use Rattle.ticket_kinds.specs.Kinds.{newcomer_kind};
+ghost use Rattle.ticket.specs.Calls.{by_number, kind_in, station_in, IsTicket};
 ghost use Rattle.ticket.specs.Truth.{Truthful, Keeps};
 
-use crate::ticket::AnyTicket;
 use crate::ticket_board::TicketBoard;
+use crate::tickets::AnyTicket;
 use accumulator::Accumulator;
-use phaser::Mode;
-use phaser::view::View;
+use calls::{Mode, View};
 use refusal::Refusal;
 
 impl AnyTicket {
@@ -35,11 +33,12 @@ impl AnyTicket {
         other: u8,
         mode: Mode,
     ) -> Result<(u32, u32, AnyTicket), Refusal>
-        ensures result { (as_answer (λ c. Registered c.0 c.1) result, state_on A.meaning board.new) ≡ step A.Value.neutral A.Value.joined (state_on A.meaning board.old) (station_in self.now) (Register other mode) }
+        ensures result { (as_answer (λ c. Registered c.0 c.1) result, board.new)
+            ≡ board_step A.Value.Joining A.changes board.old (station_in self.now) (Register other mode) }
         ensures ticket { IfOk result (λ c. IsTicket (newcomer_kind (kind_in self.now) mode) other c.2) }
-        ensures keeps { Keeps (state_on A.meaning board.old) (station_in self.now) (kind_in self.now) (Some (kind_in self.now)) result (state_on A.meaning board.new) }
-        ensures enters { Truthful (state_on A.meaning board.old) (station_in self.now) (kind_in self.now) → OnOk result (Truthful (state_on A.meaning board.new) other (newcomer_kind (kind_in self.now) mode)) }
-        ensures spare { A.spare board.new.board.accumulator ≡ A.spare board.old.board.accumulator }
+        ensures keeps { Keeps board.old.state (station_in self.now) (kind_in self.now) (Some (kind_in self.now)) result board.new.state }
+        ensures enters { Truthful board.old.state (station_in self.now) (kind_in self.now) →
+            OnOk result (Truthful board.new.state other (newcomer_kind (kind_in self.now) mode)) }
     {
         match self {
             AnyTicket::Open(ticket) => ticket.register(board, other, mode),
@@ -54,11 +53,11 @@ impl AnyTicket {
         self,
         board: &mut TicketBoard<A>,
     ) -> Result<(), (Refusal, AnyTicket)>
-        ensures result { (as_answer (λ _. Dropped) (by_number result), state_on A.meaning board.new) ≡ step A.Value.neutral A.Value.joined (state_on A.meaning board.old) (station_in self) Drop }
+        ensures result { (as_answer (λ _. Dropped) (by_number result), board.new)
+            ≡ board_step A.Value.Joining A.changes board.old (station_in self) Drop }
         ensures ticket { MatchResult result (λ _. ⊤) (λ e. e.1 ≡ self) }
-        ensures keeps { Keeps (state_on A.meaning board.old) (station_in self) (kind_in self) None (by_number result) (state_on A.meaning board.new) }
-        ensures ends { Truthful (state_on A.meaning board.old) (station_in self) (kind_in self) → IsOk result }
-        ensures spare { A.spare board.new.board.accumulator ≡ A.spare board.old.board.accumulator }
+        ensures keeps { Keeps board.old.state (station_in self) (kind_in self) None (by_number result) board.new.state }
+        ensures ends { Truthful board.old.state (station_in self) (kind_in self) → IsOk result }
     {
         match self {
             AnyTicket::Open(ticket) => ticket
@@ -78,8 +77,9 @@ impl AnyTicket {
 
     /// The view of its station.
     pub fn view<A: Accumulator>(&self, board: &TicketBoard<A>) -> Result<View, Refusal>
-        ensures result { (as_answer Viewed result, state_on A.meaning board.now) ≡ step A.Value.neutral A.Value.joined (state_on A.meaning board.now) (station_in self.now) AskView }
-        ensures keeps { Keeps (state_on A.meaning board.now) (station_in self.now) (kind_in self.now) (Some (kind_in self.now)) result (state_on A.meaning board.now) }
+        ensures result { (as_answer Viewed result, board.now)
+            ≡ board_step A.Value.Joining A.changes board.now (station_in self.now) AskView }
+        ensures keeps { Keeps board.now.state (station_in self.now) (kind_in self.now) (Some (kind_in self.now)) result board.now.state }
     {
         match self {
             AnyTicket::Open(ticket) => ticket.view(board),

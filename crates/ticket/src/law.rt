@@ -6,5 +6,5 @@ use joining::Joining;
 /// On a board that is reached through its tickets alone, each ticket that is out tells the truth of its station's view, so that no call is refused for
 /// being out of turn.
 pub fn tickets_tell_the_truth<V: Joining>()
-    ensures { TicketsTellTheTruth V.neutral V.joined }
+    ensures { TicketsTellTheTruth V.Joining }
 {}

@@ -3,10 +3,11 @@
 #![tactic(auto)]
 
 mod any;
-mod calls;
-pub mod kind;
-pub mod law;
-#[cfg(test)]
-mod tests;
-pub mod ticket;
-pub mod ticket_board;
+mod law;
+mod on_tickets;
+mod ticket_board;
+mod tickets;
+
+pub use law::tickets_tell_the_truth;
+pub use ticket_board::TicketBoard;
+pub use tickets::{AnyTicket, Ticket};

@@ -2,22 +2,31 @@
 ghost use Rattle.std.specs.Prelude.{◌≡◌, Ok};
 ghost use Rattle.refusal.specs.Rules.{verdict};
 ghost use Rattle.board.specs.Entry.{board_rules};
-ghost use Rattle.board.specs.Board.{made_on};
-ghost use Rattle.ticket.specs.Kinds.{first_kind};
-ghost use Rattle.ticket.specs.Calls.{state_on, IsTicket};
+ghost use Rattle.board.specs.Board.{new_state_on};
+ghost use Rattle.ticket_kinds.specs.Kinds.{first_kind};
+ghost use Rattle.ticket.specs.Calls.{IsTicket};
 ghost use Rattle.ticket.specs.Truth.{Truthful};
 
-use crate::kind::Kind;
-use crate::ticket::AnyTicket;
+use crate::tickets::AnyTicket;
 use accumulator::Accumulator;
-use board::board::Board;
-use phaser::Mode;
+use board::Board;
+use calls::Mode;
 use refusal::Refusal;
+use std::marker::Model;
+use ticket_kinds::Kind;
 
 /// A board whose calls are made on tickets, and by no number.
 #[derive(Drop)]
 pub struct TicketBoard<A: Accumulator> {
     pub(crate) board: Board<A>,
+}
+
+impl<A: Accumulator> Model for TicketBoard<A> {
+    ghost use Rattle.board.specs.Board.{WholeBoard};
+
+    ghost Value = { WholeBoard A.Value };
+
+    ghost view = { λ b. b.board };
 }
 
 impl<A: Accumulator> TicketBoard<A> {
@@ -31,10 +40,10 @@ impl<A: Accumulator> TicketBoard<A> {
     /// A board whose only member has signed and observed nothing, and that member's ticket.
     pub fn new(first: u8, mode: Mode, accumulator: A) -> (TicketBoard<A>, AnyTicket)
         requires { verdict (board_rules first) ≡ Ok tt }
-        ensures state { state_on A.meaning result.0 ≡ made_on first mode (A.meaning accumulator) }
-        ensures same { result.0.board.accumulator ≡ accumulator }
+        ensures board { result.0
+            ≡ record { state = new_state_on first mode (A.meaning accumulator); cells = A.cells accumulator } }
         ensures ticket { IsTicket (first_kind mode) first result.1 }
-        ensures truth { Truthful (state_on A.meaning result.0) first (first_kind mode) }
+        ensures truth { Truthful result.0.state first (first_kind mode) }
     {
         let board = Board::new(first, mode, accumulator);
         (

@@ -1,33 +1,38 @@
--- Worked examples over all layers. Assumes nothing.
+-- Worked examples over all layers.
 use Rattle.std.specs.Prelude.{◌≡◌, ℕ, true, false, List, [], ◌∷◌, ◌++◌, replicate, take, Some, None, Option, Ok, Err}
 use Rattle.refusal.specs.declared.Refusal.TheVariants.{TooFewCells, OutOfTurn, NotSigned, NothingObserved, NoCell}
 use Rattle.refusal.specs.Rules.{verdict}
-use Rattle.phaser.specs.declared.Mode.{Mode}
-use Rattle.phaser.specs.declared.Mode.TheVariants.{SignalWait, WaitOnly}
-use Rattle.phaser.specs.declared.view.View.{View}
-use Rattle.phaser.specs.declared.call.Action.{Action}
-use Rattle.phaser.specs.declared.call.Action.TheVariants.{Register, Signal, Wait, Drop, Send, Result as AskResult, View as AskView}
-use Rattle.phaser.specs.declared.call.Call.{Call}
-use Rattle.phaser.specs.declared.call.Answer.TheVariants.{Registered, Signaled, Observed, Sent, Total, Viewed}
-use Rattle.phaser.specs.Views.{before}
+use Rattle.calls.specs.declared.Mode.{Mode}
+use Rattle.calls.specs.declared.Mode.TheVariants.{SignalWait, WaitOnly}
+use Rattle.calls.specs.declared.views.View.{View}
+use Rattle.calls.specs.declared.actions.Action.{Action}
+use Rattle.calls.specs.declared.actions.Action.TheVariants.{Register, Signal, Wait, Drop, Send, Result as AskResult, View as AskView}
+use Rattle.calls.specs.declared.actions.Call.{Call}
+use Rattle.calls.specs.declared.actions.Answer.TheVariants.{Registered, Signaled, Observed, Sent, Total, Viewed}
+use Rattle.calls.specs.Views.{before}
+use Rattle.joining.specs.declared.Joining.{Ghosts}
 use Rattle.joining.specs.declared.kinds.Length.{Length}
-use Rattle.joining.specs.Kinds.{length_of, no_length, longer}
+use Rattle.joining.specs.Kinds.{length_of, no_length, joint_length}
 use Rattle.accumulator.specs.Window.{lazy_rules}
 use Rattle.shiftlog.specs.Block.{check_of}
-use Rattle.accumulator.specs.Meaning.{made_with}
-use Rattle.history.specs.State.{State, made}
-use Rattle.board.specs.Board.{made_on}
-use Rattle.ticket.specs.declared.kind.Kind.{Kind}
-use Rattle.ticket.specs.declared.kind.Kind.TheVariants.{Open, Signed}
+use Rattle.accumulator.specs.Meaning.{new_meaning}
+use Rattle.phaser.specs.State.{State, new_state}
+use Rattle.board.specs.Board.{new_state_on}
+use Rattle.ticket_kinds.specs.declared.Kind.{Kind}
+use Rattle.ticket_kinds.specs.declared.Kind.TheVariants.{Open, Signed}
 use Rattle.ticket.specs.Truth.{TicketCall, OnTickets, final_tickets, first_ticket}
-use Rattle.history.specs.Histories.{Event, Event.accepted, Event.refused, history}
+use Rattle.phaser.specs.Histories.{Event, history}
 
 abbrev pub by : ℕ → Action Length → Call Length
 by caller action = record { caller = caller; action = action }
 
+-- the joining of lengths
+abbrev pub lengths : Ghosts Length
+lengths = record { neutral = no_length; joined = joint_length }
+
 -- what becomes of calls on a board of lengths, made by a station as SW with a limit
 abbrev pub recorded : ℕ → ℕ → List (Call Length) → List (Event Length)
-recorded first_member limit calls = history no_length longer (made no_length first_member SignalWait limit) calls
+recorded first_member limit calls = history lengths (new_state lengths first_member SignalWait limit) calls
 
 abbrev pub view_with : Mode → ℕ → ℕ → View
 view_with mode sp wp = record { mode = mode; sp = sp; wp = wp }
@@ -41,11 +46,11 @@ abbrev pub ticket_calls : List (TicketCall Length)
 ticket_calls = on Open 0 Signal ∷ on Signed 0 (Register 1 SignalWait) ∷ on Signed 0 Wait ∷ on Signed 1 Drop ∷ []
 
 abbrev pub first_board : State Length
-first_board = made_on 0 SignalWait (made_with no_length 64)
+first_board = new_state_on 0 SignalWait (new_meaning lengths 64)
 
 -- the ticket that is out for a station after some of them
 abbrev pub ticket_after : List (TicketCall Length) → ℕ → Option Kind
-ticket_after calls = final_tickets no_length longer first_board (first_ticket 0 SignalWait) calls
+ticket_after calls = final_tickets lengths first_board (first_ticket 0 SignalWait) calls
 
 -- block 0 of a log with the one record view 0, its check left out
 abbrev pub one_view : List ℕ
@@ -53,44 +58,44 @@ one_view = replicate 4 0 ++ (1 ∷ replicate 11 0) ++ (7 ∷ replicate 495 0)
 
 pub record WorkedExamples : Type 0 where
   -- 0 signs and waits; waiting first is out of turn
-  pub turns : recorded 0 64 (by 0 Wait ∷ by 0 Signal ∷ by 0 Wait ∷ []) ≡ refused 0 Wait (OutOfTurn 0) ∷ accepted 0 Signal (Signaled 1) ∷ accepted 0 Wait (Observed 1) ∷ []
+  pub turns : recorded 0 64 (by 0 Wait ∷ by 0 Signal ∷ by 0 Wait ∷ []) ≡ (by 0 Wait, Err (OutOfTurn 0)) ∷ (by 0 Signal, Ok (Signaled 1)) ∷ (by 0 Wait, Ok (Observed 1)) ∷ []
   -- 0 signs, then brings in 1 as SW: 1 has signed too, and waits
   pub newcomer : recorded 0 64 (by 0 Signal ∷ by 0 (Register 1 SignalWait) ∷ by 1 AskView ∷ by 1 Signal ∷ by 1 Wait ∷ [])
-      ≡ accepted 0 Signal (Signaled 1)
-      ∷ accepted 0 (Register 1 SignalWait) (Registered 1 0)
-      ∷ accepted 1 AskView (Viewed (view_with SignalWait 1 0))
-      ∷ refused 1 Signal (OutOfTurn 1)
-      ∷ accepted 1 Wait (Observed 1)
+      ≡ (by 0 Signal, Ok (Signaled 1))
+      ∷ (by 0 (Register 1 SignalWait), Ok (Registered 1 0))
+      ∷ (by 1 AskView, Ok (Viewed (view_with SignalWait 1 0)))
+      ∷ (by 1 Signal, Err (OutOfTurn 1))
+      ∷ (by 1 Wait, Ok (Observed 1))
       ∷ []
   -- 0 brings in 1 as WO: 1 waits for what 0 signs
   pub waiter : recorded 0 64 (by 0 (Register 1 WaitOnly) ∷ by 1 Wait ∷ by 0 Signal ∷ by 1 Wait ∷ by 1 AskView ∷ [])
-      ≡ accepted 0 (Register 1 WaitOnly) (Registered 0 0)
-      ∷ refused 1 Wait (NotSigned 1)
-      ∷ accepted 0 Signal (Signaled 1)
-      ∷ accepted 1 Wait (Observed 1)
-      ∷ accepted 1 AskView (Viewed (view_with WaitOnly 0 1))
+      ≡ (by 0 (Register 1 WaitOnly), Ok (Registered 0 0))
+      ∷ (by 1 Wait, Err (NotSigned 1))
+      ∷ (by 0 Signal, Ok (Signaled 1))
+      ∷ (by 1 Wait, Ok (Observed 1))
+      ∷ (by 1 AskView, Ok (Viewed (view_with WaitOnly 0 1)))
       ∷ []
   -- 1 sends 7 for pass 1; the 9 that 0 sends later is for pass 2
   pub totals : recorded 0 64 (by 0 (Register 1 SignalWait) ∷ by 1 (Send (length_of 7)) ∷ by 0 Signal ∷ by 1 Signal ∷ by 0 Wait ∷ by 0 (Send (length_of 9)) ∷ by 1 Wait ∷ by 1 AskResult ∷ [])
-      ≡ accepted 0 (Register 1 SignalWait) (Registered 0 0)
-      ∷ accepted 1 (Send (length_of 7)) (Sent 1)
-      ∷ accepted 0 Signal (Signaled 1)
-      ∷ accepted 1 Signal (Signaled 1)
-      ∷ accepted 0 Wait (Observed 1)
-      ∷ accepted 0 (Send (length_of 9)) (Sent 2)
-      ∷ accepted 1 Wait (Observed 1)
-      ∷ accepted 1 AskResult (Total 1 (length_of 7))
+      ≡ (by 0 (Register 1 SignalWait), Ok (Registered 0 0))
+      ∷ (by 1 (Send (length_of 7)), Ok (Sent 1))
+      ∷ (by 0 Signal, Ok (Signaled 1))
+      ∷ (by 1 Signal, Ok (Signaled 1))
+      ∷ (by 0 Wait, Ok (Observed 1))
+      ∷ (by 0 (Send (length_of 9)), Ok (Sent 2))
+      ∷ (by 1 Wait, Ok (Observed 1))
+      ∷ (by 1 AskResult, Ok (Total 1 (length_of 7)))
       ∷ []
   -- each call is on a ticket that is out: 1, brought in on a signed ticket, holds a signed one
-  pub on_tickets : OnTickets no_length longer first_board (first_ticket 0 SignalWait) ticket_calls
+  pub on_tickets : OnTickets lengths first_board (first_ticket 0 SignalWait) ticket_calls
   pub signed_newcomer : ticket_after (take 2 ticket_calls) 1 ≡ Some Signed
   pub open_again : ticket_after ticket_calls 0 ≡ Some Open
   pub ended : ticket_after ticket_calls 1 ≡ None
-  pub nothing_yet : recorded 0 64 (by 0 AskResult ∷ []) ≡ refused 0 AskResult (NothingObserved 0) ∷ []
+  pub nothing_yet : recorded 0 64 (by 0 AskResult ∷ []) ≡ (by 0 AskResult, Err (NothingObserved 0)) ∷ []
   pub first_before : before (view_with SignalWait 0 0) (view_with SignalWait 1 1) ≡ true
   pub not_second_before : before (view_with SignalWait 1 1) (view_with SignalWait 0 0) ≡ false
   -- limit 2
   pub six_cells : verdict (lazy_rules 2 6) ≡ Ok tt
   pub five_cells : verdict (lazy_rules 2 5) ≡ Err (TooFewCells 5)
-  pub no_cell : recorded 2 2 (by 2 (Send (length_of 7)) ∷ []) ≡ refused 2 (Send (length_of 7)) (NoCell 2) ∷ []
+  pub no_cell : recorded 2 2 (by 2 (Send (length_of 7)) ∷ []) ≡ (by 2 (Send (length_of 7)), Err (NoCell 2)) ∷ []
   pub check : check_of one_view ≡ 124

@@ -1,8 +1,22 @@
-//! Worked examples over all layers, shown from the definitions.
+//! Examples over all layers: shown from the definitions, run as tests, and a board called in several ways.
 
 #![tactic(auto)]
 
 ghost use Rattle.worked.specs.Examples.{WorkedExamples};
+
+#[cfg(test)]
+mod accumulator_tests;
+pub mod chained;
+#[cfg(test)]
+mod joining_tests;
+#[cfg(test)]
+mod playlog_tests;
+#[cfg(test)]
+mod shiftlog_tests;
+#[cfg(test)]
+mod steptext_tests;
+#[cfg(test)]
+mod ticket_tests;
 
 /// The worked examples hold.
 pub fn examples_hold()

@@ -1,5 +1,5 @@
 use Rattle.std.proofs.Common.{rules}
-use Rattle.steptext.specs.declared.expected.Expected.TheVariants.{Station}
+use Rattle.steptext.specs.declared.expectations.Expected.TheVariants.{Station}
 use Rattle.steptext.proofs.Numbers.{number_is}
 use Rattle.steptext.proofs.words.station.Goals as goal
 

@@ -1,0 +1,6 @@
+use Rattle.std.proofs.Common.{[]}
+use Rattle.worked.proofs.chained.work_from_new.Goals as goal
+
+-- a board just made has an empty record
+pub returns : goal.returns
+returns g c = (c.in_ok-replies.ensures c.args.first c.args.mode g.limit [] (c.new-board.ensures.record g.limit c.requires.1.1.1)).1
