@@ -1,4 +1,5 @@
-//! Runs the report over the example logs, one after another, and then plays one at the limits of a board.
+//! Runs the report over the example logs, one after another, and then plays one at the limits of
+//! a board.
 
 #![tactic(auto)]
 
@@ -7,13 +8,14 @@ use board::{Board, play};
 use calls::Mode;
 use joining::CoilRecord;
 use playlog::{calls_of, lines, outcomes_of, report};
-use shiftlog::Log;
-use std::fs;
+use shiftlog::{Log, read_log};
+use std::fs::File;
 
-/// How often `signals.log`, with its 999 signals, is played: station 1 has then signed every pass there is.
+/// How often `signals.log`, with its 999 signals, is played: station 1 has then signed every pass
+/// there is.
 const ROUNDS: u32 = 1001;
 
-const NAMES: [&str; 22] = [
+const NAMES: [&str; 23] = [
     "nine",
     "empty",
     "view",
@@ -24,6 +26,7 @@ const NAMES: [&str; 22] = [
     "passes",
     "refused-3-short",
     "refused-3-long",
+    "refused-3-longer",
     "refused-4",
     "refused-4-before-5",
     "refused-5",
@@ -38,12 +41,30 @@ const NAMES: [&str; 22] = [
     "refused-8-before-4",
 ];
 
-fn show(rt: &HostRuntime, name: &str) -> anyhow::Result<()> {
+/// What is read of an example log.
+fn read_example(rt: &HostRuntime, name: &str) -> anyhow::Result<Vec<u8>> {
     let path = format!(in rt.alloc(); "{name}.log")?;
-    let bytes = fs::read(rt, path)?;
+    let file = File::open(rt, path)?;
+    Ok(read_log(rt.alloc(), file)?)
+}
+
+/// How many bytes were read, and the report of them.
+fn show(rt: &HostRuntime, name: &str) -> anyhow::Result<()> {
+    let bytes = read_example(rt, name)?;
+    let count = bytes.len();
     let text = report(rt.alloc(), bytes.as_slice())?;
     let text = text.as_str();
-    print!(rt; "== {name}\n{text}")?;
+    print!(rt; "== {name}: {count} bytes\n{text}")?;
+    Ok(())
+}
+
+/// The same of the longest log, but of its thousands of lines the last alone.
+fn show_longest(rt: &HostRuntime) -> anyhow::Result<()> {
+    let bytes = read_example(rt, "longest")?;
+    let count = bytes.len();
+    let text = report(rt.alloc(), bytes.as_slice())?;
+    let last = text.as_str().lines().last().unwrap_or("");
+    println!(rt; "== longest: {count} bytes, the last line\n{last}")?;
     Ok(())
 }
 
@@ -60,10 +81,11 @@ fn play_on(
     Ok(lines(rt.alloc(), outcomes.as_slice())?)
 }
 
-/// A board with cells for two stations, on which one has signed to the end: each refusal of a call can be reached there.
+/// A board with cells for two stations, on which one has signed to the end: each refusal of a
+/// call can be reached there.
 fn show_limits(rt: &HostRuntime) -> anyhow::Result<()> {
-    let signals = fs::read(rt, "signals.log")?;
-    let limits = fs::read(rt, "limits.log")?;
+    let signals = read_example(rt, "signals")?;
+    let limits = read_example(rt, "limits")?;
     let signals = Log::check(signals.as_slice())?;
     let limits = Log::check(limits.as_slice())?;
     let mut board = Board::new(0, Mode::SignalWait, Eager::new(2));
@@ -80,6 +102,7 @@ fn run(rt: &HostRuntime) -> anyhow::Result<()> {
     for name in NAMES {
         show(rt, name)?;
     }
+    show_longest(rt)?;
     show_limits(rt)
 }
 

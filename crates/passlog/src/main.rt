@@ -2,23 +2,26 @@
 
 #![tactic(auto)]
 
+ghost use Rattle.std.specs.Prelude.{IfSome, OnOk};
+ghost use Rattle.std.specs.Io.KnownBytes.{Appends};
+ghost use Rattle.playlog.specs.Report.{report_text};
+
 use playlog::report;
-use shiftlog::form::MAX_LOG_LEN;
+use shiftlog::{read_log, write_bytes};
+use std::alloc::Global;
 use std::io::{Read, Write};
 
-/// One byte more than the longest log decides that a log is too long, so no more is read.
-const ENOUGH: u64 = MAX_LOG_LEN as u64 + 1;
-
-fn run(rt: &HostRuntime) -> anyhow::Result<()> {
-    let mut bytes = Vec::new(rt.alloc());
-    rt.stdin().take(ENOUGH).read_to_end(&mut bytes)?;
-    let text = report(rt.alloc(), bytes.as_slice())?;
-    let mut out = rt.stdout();
-    out.write_all(text.as_bytes())?;
-    out.flush()?;
+/// Writes the report of all that the reader gives, and nothing else.
+fn run<R: Read + Drop, W: Write>(heap: Global, reader: R, writer: &mut W) -> anyhow::Result<()>
+    ensures { OnOk result (IfSome (R.remaining reader) (λ log.
+        Appends (W.contents writer.old) (W.contents writer.new) (report_text log))) }
+{
+    let bytes = read_log(heap, reader)?;
+    let text = report(heap, bytes.as_slice())?;
+    write_bytes(writer, text.as_bytes())?;
     Ok(())
 }
 
 fn main(rt: HostRuntime) -> anyhow::Result<()> {
-    run(&rt)
+    run(rt.alloc(), rt.stdin(), &mut rt.stdout())
 }
