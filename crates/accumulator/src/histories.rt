@@ -36,7 +36,8 @@ fn make<A: Accumulator>(accumulator: &mut A, call: Call<A::Value>) -> Answer<A::
 }
 
 /// Makes the calls in turn, and hands out their answers. Where memory fails, no call is made.
-// Not one function with the board's: a trait for both, with its relation and what leads from there to each contract, is longer than the two loops.
+// Not one function with the board's: a trait for both, with its relation and what leads from
+// there to each contract, is longer than the two loops.
 #[tactic(auto, using(refusal::proofs::Traces::trace_more, refusal::proofs::Traces::trace_all))]
 pub fn play<A: Accumulator>(
     accumulator: &mut A,
@@ -54,7 +55,8 @@ pub fn play<A: Accumulator>(
     Ok(answers)
 }
 
-/// Plays the same calls on two accumulators. Where they mean the same, so do their answers. Where memory fails, the right one is as it was, and so is the left one unless it has been played.
+/// Plays the same calls on two accumulators. Where they mean the same, so do their answers. Where
+/// memory fails, the right one is as it was, and so is the left one unless it has been played.
 pub fn play_both<A: Accumulator, B: Accumulator<Value = A::Value>>(
     left: &mut A,
     right: &mut B,

@@ -25,14 +25,16 @@ pub const KEPT: usize = 3;
 /// A board moves its accumulator on when a wait in mode SW reaches the first kept pass plus this.
 pub const LEAD: u32 = 2;
 
-/// Keeps the totals of `KEPT` passes, from the first kept one on. Its calls are known by what they do to its meaning.
+/// Keeps the totals of `KEPT` passes, from the first kept one on. Its calls are known by what
+/// they do to its meaning.
 pub trait Accumulator {
     type Value: Joining + Copy;
 
     /// The limit, the first kept pass and the totals of the kept passes.
     ghost meaning: { Self → Meaning Self.Value };
 
-    /// The limit is 1 to 64, the first kept pass is at most the last one, and each kept pass has a total.
+    /// The limit is 1 to 64, the first kept pass is at most the last one, and each kept pass has
+    /// a total.
     ghost sound: { (a : Self) → Sound (meaning a) };
 
     /// The cells that are lent, each with what it holds.

@@ -30,7 +30,8 @@ impl<V: Joining + Copy> Eager<V> {
         try_limit(limit)
     }
 
-    /// An accumulator for the stations below the limit: its first kept pass is 0, and its totals are neutral.
+    /// An accumulator for the stations below the limit: its first kept pass is 0, and its totals
+    /// are neutral.
     pub fn new(limit: usize) -> Eager<V>
         requires { verdict (eager_rules limit) ≡ Ok tt }
         ensures { ⟦<Eager<V> as Accumulator>⟧.meaning result ≡ new_meaning V.Joining limit }

@@ -7,7 +7,7 @@ use crate::window::Slot;
 use joining::Joining;
 
 /// Keeps a total for each of the `KEPT` slots, of the values of the stations below a limit.
-// The window has the limit, and the calls are told it: what holds a `&mut` could not hold it with its bounds, since the checker refuses such a type argument.
+// The window has the limit, so that it stands once, and the calls are told it.
 pub trait Slots {
     type Value: Joining + Copy;
 

@@ -17,7 +17,8 @@ use joining::{Joining, join_every};
 use refusal::Refusal;
 use std::marker::Model;
 
-/// Station s has cell `KEPT` * s + r for slot r. The cells are lent, and further ones are left as they are.
+/// Station s has cell `KEPT` * s + r for slot r. The cells are lent, and further ones are left as
+/// they are.
 #[derive(Drop)]
 pub struct Cells<'a, V> {
     cells: &'a mut [V],
@@ -89,7 +90,8 @@ impl<'a, V: Joining + Copy> Slots for Cells<'a, V> {
     }
 
     fn wipe(&mut self, limit: u8, slot: Slot) {
-        // By index: of what `step_by` lends by `iter_mut`, a proof does not know the cells afterwards.
+        // By index: of what `step_by` lends by `iter_mut`, a proof does not know the cells
+        // afterwards.
         for station in 0..limit {
             self.cells[KEPT * station as usize + slot.index] = V::neutral();
         }

@@ -1,2 +1,3 @@
 pub mod Holding
 pub mod Recorded
+pub mod Sound

@@ -1,11 +1,12 @@
 -- Who holds a waiter back.
-use Rattle.std.specs.Prelude.{◌≡◌, ℕ, ◌+◌, ◌*◌, ◌/◌, ◌%◌, ◌^◌, Bool, false, cond, ◌&&◌, List, [], ◌∷◌, Some, None, Option, Result, count_ones, nat_lt, slice_index_or}
+use Rattle.std.specs.Prelude.{◌≡◌, ◌↔◌, ℕ, ◌+◌, ◌*◌, ◌/◌, ◌%◌, ◌^◌, Bool, false, cond, ◌&&◌, List, [], ◌∷◌, Some, None, Option, Result, count_ones, nat_lt, slice_index_or}
 use Rattle.refusal.specs.declared.Refusal.{Refusal}
 use Rattle.refusal.specs.Rules.{verdict}
 use Rattle.calls.specs.declared.Verb.TheVariants as verb
 use Rattle.calls.specs.declared.views.View.{View}
-use Rattle.calls.specs.Views.{signs}
+use Rattle.calls.specs.Views.{signs, Before}
 use Rattle.accumulator.specs.Meaning.{answer_by}
+use Rattle.phaser.specs.Rules.{Await}
 use Rattle.phaser.specs.Steps.{view_of}
 use Rattle.board.specs.Entry.{entry_rules}
 
@@ -19,9 +20,22 @@ abbrev pub holder_set : ℕ → List (Option View) → ℕ
 holder_set wp [] = 0
 holder_set wp (o ∷ os) = cond (holds_back wp o) 1 0 + 2 * holder_set wp os
 
--- bit k of the set is station k's
-abbrev pub BitsOf : ℕ → ℕ → List (Option View) → Type 0
-BitsOf set wp seats = (k : ℕ) → set / 2 ^ k % 2 ≡ cond (holds_back wp (slice_index_or seats k None)) 1 0
+-- bit k of a set is one
+abbrev pub HasBit : ℕ → ℕ → Type 0
+HasBit set k = set / 2 ^ k % 2 ≡ 1
+
+-- a member at k, with a view that happened before w
+pub record HappenedBefore (members : List (Option View)) (k : ℕ) (w : View) : Type 0 where
+  pub view : View
+  pub member : slice_index_or members k None ≡ Some view
+  pub before : Before view w
+
+-- the set of those that a waiter waits for, w being its view after its wait
+pub record WaitsFor (members : List (Option View)) (w : View) (set : ℕ) : Type 0 where
+  -- bit k is one just where the view at k happened before w
+  pub each : (k : ℕ) → HasBit set k ↔ HappenedBefore members k w
+  -- the set is empty just where every signaler has signed the pass of the wait
+  pub none : (set ≡ 0) ↔ Await (λ k. slice_index_or members k None) w.wp
 
 -- what a waiter is told, or why not: its set of holders, with the count of ones
 abbrev pub holders_of : List (Option View) → ℕ → Result (ℕ × ℕ) Refusal

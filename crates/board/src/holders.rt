@@ -2,8 +2,10 @@
 ghost use Rattle.std.specs.Prelude.{◌≡◌, ◌≤◌, length, IfOk, None, slice_index_or};
 ghost use Rattle.std.specs.Int.Count.{ones};
 ghost use Rattle.refusal.specs.declared.limits.TheConstants.{STATIONS};
+ghost use Rattle.phaser.specs.State.{seat};
+ghost use Rattle.phaser.specs.Rules.{view_after_wait};
 ghost use Rattle.phaser.specs.Steps.{view_of};
-ghost use Rattle.board.specs.Holders.{holds_back, holder_set, BitsOf, holders_of};
+ghost use Rattle.board.specs.Holders.{holds_back, holder_set, holders_of, WaitsFor};
 
 use crate::Board;
 use crate::members::SEATS;
@@ -32,10 +34,11 @@ fn held_by(seats: &[Option<View>; SEATS], wp: u32) -> u64
 }
 
 impl<A: Accumulator> Board<A> {
-    /// The stations that a waiter waits for, as a set with its count: bit k is station k's.
+    /// The stations that a waiter waits for, as a set with its count: bit k is station k's. It is
+    /// empty just where the wait's pass is signed by every signaler.
     pub fn holders(&self, waiter: u8) -> Result<(u64, u32), Refusal>
         ensures answer { result ≡ holders_of self.now.state.members waiter }
-        ensures bits { IfOk result (λ h. BitsOf h.0 (view_of (slice_index_or self.now.state.members waiter None)).wp self.now.state.members) }
+        ensures who { IfOk result (λ h. WaitsFor self.now.state.members (view_after_wait (view_of (seat self.now.state waiter))) h.0) }
     {
         let member = self.members.enter(waiter, Verb::Wait)?;
         let set = held_by(&self.members.seats, member.view.wp);

@@ -11,6 +11,7 @@ ghost use Rattle.phaser.specs.Law.{RecordOf};
 ghost use Rattle.board.specs.Entry.{board_rules};
 ghost use Rattle.board.specs.Board.{new_state_on, as_answer, board_step};
 
+mod every_board;
 mod histories;
 mod holders;
 mod members;

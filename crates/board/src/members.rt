@@ -1,6 +1,7 @@
 //! The member table: a seat for each station, plain enough to be copied whole.
-ghost use Rattle.std.specs.Prelude.{◌≡◌, is_some, None, slice_index_or, slice_set};
+ghost use Rattle.std.specs.Prelude.{◌≡◌, is_some, IfOk, None, slice_index_or, slice_set};
 ghost use Rattle.refusal.specs.Rules.{DecidedBy};
+ghost use Rattle.phaser.specs.State.{SoundSeat, SoundView};
 ghost use Rattle.phaser.specs.Steps.{view_of, has_signed, all_signed};
 ghost use Rattle.board.specs.Entry.{entry_rules, first_members};
 
@@ -14,7 +15,8 @@ use std::marker::Model;
 /// How many seats there are.
 pub const SEATS: usize = STATIONS as usize;
 
-/// The view of each station that is a member.
+/// The view of each station that is a member. Each is sound: its counts are those of its mode,
+/// and no count is past the last pass.
 // A plain array, so that the table is copied whole by value, to try a change on the copy.
 #[derive(Clone, Copy)]
 pub struct Members {
@@ -28,6 +30,10 @@ impl Model for Members {
     ghost Value = { List (Option View) };
 
     ghost view = { λ m. m.seats };
+
+    ghost use Rattle.phaser.specs.State.{SoundSeats};
+
+    ghost invariant = { λ m. SoundSeats m.seats };
 
     ghost inverse = { λ seats. record { seats = seats } };
 }
@@ -58,8 +64,9 @@ impl Members {
 
     /// The caller, where it is a member and its mode may make the call.
     pub(crate) fn enter(&self, caller: u8, verb: Verb) -> Result<Member, Refusal>
-        ensures { let view = view_of (slice_index_or self.now caller None) in
+        ensures decided { let view = view_of (slice_index_or self.now caller None) in
             DecidedBy (entry_rules self.now caller verb) result (λ m. (m.view ≡ view) × (m.station.number ≡ caller)) }
+        ensures sound { IfOk result (λ m. SoundView m.view) }
     {
         let station = Station::try_from(caller)?;
         let view = self.seats[station.number as usize].ok_or(Refusal::NotMember { caller })?;
@@ -85,6 +92,7 @@ impl Members {
 
     /// Puts a view, or none, in the seat of a station.
     pub(crate) fn put(&mut self, station: Station, seat: Option<View>)
+        requires { SoundSeat seat }
         ensures { self.new ≡ slice_set self.old station.number seat }
     {
         self.seats[station.number as usize] = seat;

@@ -1,6 +1,7 @@
 //! Whose turn it is: what a member may sign, send and wait for.
 ghost use Rattle.std.specs.Prelude.{◌≡◌};
 ghost use Rattle.phaser.specs.Limits.{is_sw};
+ghost use Rattle.phaser.specs.State.{SoundView};
 ghost use Rattle.board.specs.Entry.{next_pass, pass_to_sign, pass_to_observe};
 
 use crate::members::Member;
@@ -30,10 +31,11 @@ impl Member {
 
     /// The pass that it would sign, or send for, next.
     pub(crate) fn next_to_sign(self) -> Result<u32, Refusal>
+        requires { SoundView self.view }
         ensures { result ≡ pass_to_sign self.view self.station.number }
     {
         let view = self.view;
-        if in_turn(view.mode) && u64::from(view.sp) == u64::from(view.wp) + 1 {
+        if in_turn(view.mode) && view.sp == view.wp + 1 {
             return Err(Refusal::OutOfTurn {
                 caller: self.station.number,
             });

@@ -1,5 +1,5 @@
 -- Who signs and who waits, and when one view happened before another.
-use Rattle.std.specs.Prelude.{◌≡◌, ℕ, ◌+◌, ◌<◌, ◌≤◌, Bool, true, false, ◌&&◌, nat_lt}
+use Rattle.std.specs.Prelude.{◌≡◌, ℕ, ◌+◌, ◌<◌, ◌≤◌, Bool, true, false}
 use Rattle.calls.specs.declared.Mode.{Mode}
 use Rattle.calls.specs.declared.Mode.TheVariants.{SignalWait, SignalOnly, WaitOnly}
 use Rattle.calls.specs.declared.views.View.{View}
@@ -22,14 +22,8 @@ pub record Before (v w : View) : Type 0 where
   pub less : v.sp < w.wp
   pub waiter : waits w.mode ≡ true
 
-abbrev pub before : View → View → Bool
-before v w = signs v.mode && nat_lt v.sp w.wp && waits w.mode
-
 -- the counts that a view of each mode may have
 abbrev pub SoundCounts : Mode → ℕ → ℕ → Type 0
 SoundCounts SignalWait sp wp = (wp ≤ sp) × (sp ≤ wp + 1)
 SoundCounts SignalOnly sp wp = wp ≤ sp
 SoundCounts WaitOnly sp wp = Unit {0}
-
-abbrev pub SoundView : View → Type 0
-SoundView v = SoundCounts v.mode v.sp v.wp

@@ -1,12 +1,13 @@
 //! A member's view, and which of two views happened before the other.
-ghost use Rattle.std.specs.Prelude.{◌≡◌, Some};
-ghost use Rattle.calls.specs.Views.{signs, waits, before};
+ghost use Rattle.std.specs.Prelude.{◌≡◌, ◌↔◌, IsTrue, Some};
+ghost use Rattle.calls.specs.Views.{signs, waits, Before};
 ghost use Rattle.calls.specs.Words.{view_text};
 
 use crate::Mode;
 use std::fmt;
 
-/// What a member knows: its mode, the passes that it has signed (sp) and those that it has observed (wp).
+/// What a member knows: its mode, the passes that it has signed (sp) and those that it has
+/// observed (wp).
 #[derive(Clone, Copy, Debug, PartialEq, Eq)]
 pub struct View {
     pub mode: Mode,
@@ -31,9 +32,10 @@ impl Mode {
 }
 
 impl View {
-    /// Whether it happened before the other: it signs, has signed less than the other has observed, and the other waits.
+    /// Whether it happened before the other: it signs, has signed less than the other has
+    /// observed, and the other waits.
     pub fn happened_before(&self, other: &View) -> bool
-        ensures { result ≡ before self.now other.now }
+        ensures { IsTrue result ↔ Before self.now other.now }
     {
         self.mode.signs() && self.sp < other.wp && other.mode.waits()
     }
@@ -51,8 +53,8 @@ impl fmt::Display for View {
 /// Whether the first view happened before the second, and the second before the first.
 // No ordering: of views that no board has, both may be yes.
 pub fn compare(first: &View, second: &View) -> (bool, bool)
-    ensures forward { result.0 ≡ before first.now second.now }
-    ensures backward { result.1 ≡ before second.now first.now }
+    ensures forward { IsTrue result.0 ↔ Before first.now second.now }
+    ensures backward { IsTrue result.1 ↔ Before second.now first.now }
 {
     (first.happened_before(second), second.happened_before(first))
 }

@@ -1,4 +1,5 @@
-//! Takes one coil of three stations through two passes by tickets alone, and prints what each call answers.
+//! Takes one coil of three stations through two passes by tickets alone, and prints what each
+//! call answers.
 
 #![tactic(auto, unfolding(crate::specs::Hands::IsTruthful))]
 
@@ -24,7 +25,8 @@ type Crew = (AnyTicket, AnyTicket, AnyTicket);
 struct Coil {
     board: TicketBoard<Eager<CoilRecord>>,
     outcomes: Vec<Outcome>,
-    // Where an outcome finds no memory, that is told at the end: a `?` would let the tickets go that are out.
+    // Where an outcome finds no memory, that is told at the end: a `?` would let the tickets go
+    // that are out.
     kept: Result<(), AllocError>,
 }
 
@@ -32,7 +34,7 @@ impl Coil {
     /// Notes what a call was answered.
     fn note(&mut self, verb: Verb, caller: u8, answer: Result<Answer<CoilRecord>, Refusal>)
         ensures board { self.new.board ≡ self.old.board }
-        ensures kept { IsOk self.new.kept → vec_len self.new.outcomes ≡ vec_len self.old.outcomes + 1 }
+        ensures kept { IsOk self.new.kept → IsOk self.old.kept × (vec_len self.new.outcomes ≡ vec_len self.old.outcomes + 1) }
     {
         let outcome = Outcome {
             number: self.outcomes.len() + 1,
@@ -58,7 +60,8 @@ impl Coil {
         }
     }
 
-    /// Takes the ticket's turn: an open one signs, a signed and a wait-only one wait. None here is sign-only.
+    /// Takes the ticket's turn: an open one signs, a signed and a wait-only one wait. None here
+    /// is sign-only.
     fn take_turn(&mut self, ticket: AnyTicket) -> AnyTicket
         requires { IsTruthful self.old.board.state ticket }
         ensures own { InHand self.new.board.state (station_in ticket) result }
@@ -129,7 +132,8 @@ impl Coil {
     }
 }
 
-/// Station 0, a gauge, brings in 1, another one, and 2, a reel that only waits. Two passes, and all leave.
+/// Station 0, a gauge, brings in 1, another one, and 2, a reel that only waits. Two passes, and
+/// all leave.
 fn main(rt: HostRuntime) -> anyhow::Result<()> {
     let (board, first) = TicketBoard::new(0, Mode::SignalWait, Eager::new(STATIONS as usize));
     let mut coil = Coil {

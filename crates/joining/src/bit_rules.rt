@@ -3,7 +3,8 @@ ghost use Rattle.std.specs.Prelude.{◌≡◌, ℕ, bit_or, bit_xor};
 ghost use Rattle.joining.specs.Laws.{CommutativeMonoid};
 ghost use Rattle.joining.specs.BitLaws.{or_laws, xor_laws};
 
-/// An operation bit by bit, under which numbers are a commutative monoid of which 0 is the neutral value.
+/// An operation bit by bit, under which numbers are a commutative monoid of which 0 is the
+/// neutral value.
 pub trait Bitwise {
     ghost operation: { ℕ → ℕ → ℕ };
 

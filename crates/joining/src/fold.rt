@@ -10,7 +10,8 @@ pub fn joining_laws<V: Joining>()
     ensures { JoiningLaws V.Joining }
 {}
 
-/// Joins the cells `start`, `start + step`, `start + 2 * step` and so on, from the neutral value. A step of 0 counts as 1.
+/// Joins the cells `start`, `start + step`, `start + 2 * step` and so on, from the neutral value.
+/// A step of 0 counts as 1.
 pub fn join_every<V: Joining + Copy>(cells: &[V], start: usize, step: usize) -> V
     ensures { result ≡ joining_of V.Joining (cells_in_steps start step cells.now) }
 {

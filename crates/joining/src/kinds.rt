@@ -1,4 +1,5 @@
-//! The five kinds of value. Their ghost fields put the width into the type, since the laws are owed for every number.
+//! The five kinds of value. Their ghost fields put the width into the type, since the laws are
+//! owed for every number.
 ghost use Rattle.std.specs.Prelude.{◌^◌, ◌<◌};
 ghost use Rattle.joining.specs.Deviation.{InRange};
 
@@ -29,7 +30,8 @@ pub type Marks = Bits<Inclusive>;
 /// A set of 16 toggles: one that two values have is gone.
 pub type Toggles = Bits<Exclusive>;
 
-/// The smallest and the largest of some deviations. Of none, the smallest is the largest number, and the reverse.
+/// The smallest and the largest of some deviations. Of none, the smallest is the largest number,
+/// and the reverse.
 #[derive(Clone, Copy, PartialEq, Eq, Debug)]
 pub struct Extremes {
     pub thinnest: Deviation,
@@ -38,7 +40,8 @@ pub struct Extremes {
     ghost thickest_fits: { InRange thickest },
 }
 
-/// What is recorded of a coil: its length, the extremes of its thickness and its marks, side by side.
+/// What is recorded of a coil: its length, the extremes of its thickness and its marks, side by
+/// side.
 #[derive(Clone, Copy, PartialEq, Eq, Debug)]
 pub struct CoilRecord {
     pub length: Length,

@@ -40,13 +40,13 @@ module _ {V : Type 0} (J : Ghosts V) (s : State V) (sound : SoundState s) (j : �
 
   -- the limits of a call that writes one seat, and what it shows
   wrote : (x : Action V) (k : ℕ) (o : Option View) → j < STATIONS → HasRoom s j me x → first_after s.account.first me x ≡ s.account.first → WithinLimits s j x me (with_seat s k o)
-  wrote x k o h f e = record { station = h; room = f; table = length-set s.members k o ∙ sound.table; limit = refl; first = sym e; window = sound.window }
+  wrote x k o h f e = record { station = h; room = f; table = length-set s.members k o ∙ sound.seats.table; limit = refl; first = sym e; window = sound.window }
 
   shows_put : (k : ℕ) (o : Option View) → k < STATIONS → Shows J (with_seat s k o) (record { phaser = put (seat s) k o; totals = T })
-  shows_put k o h = record { seats = get_or-put s.members k o None (omega (arith, sound.table)); totals = λ p l. refl }
+  shows_put k o h = record { seats = get_or-put s.members k o None (omega (arith, sound.seats.table)); totals = λ p l. refl }
 
   stays : (x : Action V) → j < STATIONS → HasRoom s j me x → first_after s.account.first me x ≡ s.account.first → WithinLimits s j x me s
-  stays x h f e = record { station = h; room = f; table = sound.table; limit = refl; first = sym e; window = sound.window }
+  stays x h f e = record { station = h; room = f; table = sound.seats.table; limit = refl; first = sym e; window = sound.window }
 
   shows_same : Shows J s (phaser_state J s)
   shows_same = record { seats = λ k. refl; totals = λ p l. refl }
@@ -69,7 +69,7 @@ module _ {V : Type 0} (J : Ghosts V) (s : State V) (sound : SoundState s) (j : �
       record {
         view = me;
         next = record { phaser = put (seat s) j (Some (view_after_signal me)); totals = T };
-        applies = (record { member = here; signer = c.1.1.0; turn = sign_in_turn me.mode me.sp me.wp (sound.views j me here) c.1.1.1.0; leaves = refl }, refl, refl);
+        applies = (record { member = here; signer = c.1.1.0; turn = sign_in_turn me.mode me.sp me.wp (sound.seats.views j me here).counts c.1.1.1.0; leaves = refl }, refl, refl);
         limits = wrote Signal j (Some (view_after_signal me)) within (leb-true (me.sp + 1) LAST_PASS c.1.1.1.1.0) refl;
         shows = shows_put j (Some (view_after_signal me)) within;
       }
@@ -82,8 +82,8 @@ module _ {V : Type 0} (J : Ghosts V) (s : State V) (sound : SoundState s) (j : �
       record {
         view = me;
         next = record { phaser = put (seat s) j o; totals = T };
-        applies = (record { await = all_up (me.wp + 1) s.members signed_all; member = here; waiter = c.1.1.0; turn = wait_in_turn me.mode me.sp me.wp (sound.views j me here) c.1.1.1.0; leaves = refl }, refl, refl);
-        limits = record { station = within; room = leb-true (me.wp + 1) LAST_PASS c.1.1.1.1.0; table = length-set s.members j o ∙ sound.table; limit = m.limit; first = m.first; window = m.window };
+        applies = (record { await = all_up (me.wp + 1) s.members signed_all; member = here; waiter = c.1.1.0; turn = wait_in_turn me.mode me.sp me.wp (sound.seats.views j me here).counts c.1.1.1.0; leaves = refl }, refl, refl);
+        limits = record { station = within; room = leb-true (me.wp + 1) LAST_PASS c.1.1.1.1.0; table = length-set s.members j o ∙ sound.seats.table; limit = m.limit; first = m.first; window = m.window };
         shows = record { seats = (shows_put j o within).seats; totals = m.totals };
       }
   to_rule Drop c =
@@ -104,11 +104,11 @@ module _ {V : Type 0} (J : Ghosts V) (s : State V) (sound : SoundState s) (j : �
       record {
         view = me;
         next = record { phaser = seat s; totals = put T n (J.joined (T n) x) };
-        applies = (record { member = here; sender = sw; turn = sign_in_turn me.mode me.sp me.wp (sound.views j me here) c.1.1.1.0 sw; leaves = refl }, refl, refl);
+        applies = (record { member = here; sender = sw; turn = sign_in_turn me.mode me.sp me.wp (sound.seats.views j me here).counts c.1.1.1.0 sw; leaves = refl }, refl, refl);
         limits = record {
           station = ltb-true j STATIONS c.0;
           room = (leb-true n LAST_PASS c.1.1.1.1.0, ltb-true j s.account.limit c.1.1.1.1.1.0, is-kept);
-          table = sound.table;
+          table = sound.seats.table;
           limit = refl;
           first = refl;
           window = length-set _ _ _ ∙ sound.window;

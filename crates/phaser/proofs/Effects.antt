@@ -87,7 +87,7 @@ module _ {V : Type 0} (s : State V) (j : ℕ) where
   no_wait : (x : Action V) (v : View) (t : State V) → t.account.first ≡ s.account.first → (x ≢ Wait) → Firsts s x v t
   no_wait x v t e ne = record { up = omega arith; moved = inl e; bound = λ q. absurd (ne q) }
 
-  waited_first : (v : View) (l : ℕ) → LevelView l s.account.first v → (b : Bool) → reaches s.account.first v ≡ b → (t : State V) → t.account.first ≡ cond b (s.account.first + 1) s.account.first → Firsts s Wait v t
+  pub waited_first : (v : View) (l : ℕ) → LevelView l s.account.first v → (b : Bool) → reaches s.account.first v ≡ b → (t : State V) → t.account.first ≡ cond b (s.account.first + 1) s.account.first → Firsts s Wait v t
   waited_first v l h true e t q =
       let p = and_parts (is_sw v.mode) (eqb (v.wp + 1) (s.account.first + LEAD)) e in
       let n = eqb-true (v.wp + 1) (s.account.first + LEAD) p.1 in

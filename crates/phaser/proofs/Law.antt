@@ -14,7 +14,7 @@ use Rattle.phaser.specs.State.{State, seat, new_state, SoundState}
 use Rattle.phaser.specs.Limits.{Accepted}
 use Rattle.phaser.specs.Steps.{view_of, rules, answer_of, state_of, state_by}
 use Rattle.phaser.specs.Histories.{accepted_calls, refusals, history, final_state, Event, call_step}
-use Rattle.phaser.specs.Law.{Expected, LawOfTheRecord, RecordOf, RecordsGoOn}
+use Rattle.phaser.specs.Law.{Expected, LawOfTheRecord, RecordOf, RecordsGoOn, OrderFree, RecordsAlike}
 use Rattle.phaser.specs.Accounts.{AccountsOrderFree}
 use Rattle.phaser.proofs.Levels.{Good, good_sound, step_good, made_good}
 use Rattle.phaser.proofs.Runs.{Run, Recorded}
@@ -24,6 +24,7 @@ use Rattle.phaser.proofs.OrderFree.{shares, order_free}
 use Rattle.phaser.proofs.Ends.{ended}
 use Rattle.phaser.proofs.Shares.{same_account}
 use Rattle.phaser.proofs.Agree.{accepts, rules_agree_lem}
+use Rattle.phaser.proofs.Moves.{moves_on}
 use Rattle.phaser.proofs.Fine.{fine_verdict}
 use Rattle.phaser.proofs.Refusals.{fine}
 use Rattle.std.specs.List.{AllByRecursion}
@@ -79,6 +80,7 @@ module _ {V : Type 0} (J : Ghosts V) where
         complete = totals_complete J j mode limit h t rec;
         order_free = λ others once same. order_free J j mode limit h (accepted_calls (history J start others)) t (final_state J start others) rec (recorded j mode limit within others) once same laws;
         expected = (played calls 0 start (made_good J j mode limit within)).1;
+        moves = moves_on J j mode limit h t rec;
       }
 
   pub accounts_order_free_lem : (A : Type 0) → AccountsOrderFree J A
@@ -100,6 +102,11 @@ module _ {V : Type 0} (J : Ghosts V) where
   pub record_lawful : CommutativeMonoid J.neutral J.joined → (j : ℕ) (mode : Mode) (limit : ℕ) (h : List (Event V)) (t : State V) → RecordOf J j mode limit h t → LawOfTheRecord J j (new_state J j mode limit) h t
   record_lawful laws j mode limit h t r =
       subst₂ (λ g u. LawOfTheRecord J j (new_state J j mode limit) g u) (sym r.recorded) (sym r.ends) (list_lawful laws j mode limit r.maker r.calls)
+
+  -- the second board's calls are one of the histories of which the law of the first one speaks
+  pub records_alike : CommutativeMonoid J.neutral J.joined → RecordsAlike J
+  records_alike laws j mode limit g h s t r q =
+      subst₂ (λ k u. OrderFree j g s k u) (sym q.recorded) (sym q.ends) ((record_lawful laws j mode limit g s r).order_free q.calls)
 
   pub record_goes_on : CommutativeMonoid J.neutral J.joined → RecordsGoOn J
   record_goes_on laws s t cs xs e j mode limit h r =

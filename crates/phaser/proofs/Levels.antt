@@ -1,8 +1,8 @@
 -- The level of a board: every waiter has observed at most it, every signaler has signed at least it, and it never falls.
-use Rattle.std.proofs.Common.{◌≡◌, ℕ, ◌+◌, ◌-◌, ◌<◌, ◌≤◌, max, Bool, true, false, cond, ◌&&◌, eqb, length, replicate, Some, None, Option, sym, refl, ap, ◌∙◌, subst, ⊎_elim, arith}
+use Rattle.std.proofs.Common.{◌≡◌, ℕ, ◌+◌, ◌-◌, ◌<◌, ◌≤◌, max, Bool, true, false, cond, ◌&&◌, eqb, length, replicate, Some, None, Option, sym, refl, ap, ◌∙◌, subst, ⊎_elim, lit≤, arith}
 use Rattle.std.proofs.lemmas.List.{length-set, length-replicate}
 use Rattle.std.proofs.lemmas.Bool.{eqb-true, eqb-false, and_parts, false≢true}
-use Rattle.refusal.specs.declared.limits.TheConstants.{STATIONS}
+use Rattle.refusal.specs.declared.limits.TheConstants.{STATIONS, LAST_PASS}
 use Rattle.joining.specs.declared.Joining.{Ghosts}
 use Rattle.calls.specs.declared.Mode.{Mode}
 use Rattle.calls.specs.declared.Mode.TheVariants.{SignalWait, SignalOnly, WaitOnly}
@@ -74,15 +74,31 @@ right_false : (x y : Bool) → x ≡ true → (x && y) ≡ false → y ≡ false
 right_false true y e h = h
 right_false false y e h = absurd (false≢true e)
 
+-- neither count is past the last pass
+pub record InRange (v : View) : Type 0 where
+  pub signed : v.sp ≤ LAST_PASS
+  pub observed : v.wp ≤ LAST_PASS
+
 -- the invariant
 pub record Good {V : Type 0} (l : ℕ) (s : State V) : Type 0 where
   pub table : length s.members ≡ STATIONS
   pub each : Everyone (LevelView l s.account.first) s
+  pub counted : Everyone InRange s
   pub behind : s.account.first ≤ l - 1
   pub window : length s.account.totals ≡ KEPT
 
 pub good_sound : {V : Type 0} (l : ℕ) (s : State V) → Good l s → SoundState s
-good_sound l s g = record { table = g.table; views = λ k v e. level_sound v.mode v.sp v.wp l s.account.first (g.each k v e); window = g.window }
+good_sound l s g = record {
+  seats = record {
+    table = g.table;
+    views = λ k v e. record {
+      counts = level_sound v.mode v.sp v.wp l s.account.first (g.each k v e);
+      signed = (g.counted k v e).signed;
+      observed = (g.counted k v e).observed;
+    };
+  };
+  window = g.window;
+}
 
 -- the level rises or stays
 pub record Rose {V : Type 0} (l : ℕ) (t : State V) : Type 0 where
@@ -107,19 +123,23 @@ wait_behind v l f h false e = omega arith
 
 module _ {V : Type 0} (J : Ghosts V) (l : ℕ) (s : State V) (g : Good l s) (j : ℕ) where
   -- a call that leaves the first kept pass leaves the level
-  stays : (x : Action V) (a : Answer V) (t : State V) (d : Accepted J s j x a t) → t.account.first ≡ s.account.first → Everyone (LevelView l s.account.first) t → Rose l t
-  stays x a t d e all = record {
+  stays : (x : Action V) (a : Answer V) (t : State V) (d : Accepted J s j x a t) → t.account.first ≡ s.account.first → Everyone (LevelView l s.account.first) t → Everyone InRange t → Rose l t
+  stays x a t d e all counted = record {
     level = l;
     up = omega arith;
-    good = record { table = d.limits.table; each = subst (λ (f : ℕ). Everyone (LevelView l f) t) (sym e) all; behind = omega (arith, g.behind); window = d.limits.window };
+    good = record { table = d.limits.table; each = subst (λ (f : ℕ). Everyone (LevelView l f) t) (sym e) all; counted = counted; behind = omega (arith, g.behind); window = d.limits.window };
   }
 
   -- with these seats and the same level
-  sits : (x : Action V) (a : Answer V) (t : State V) (d : Accepted J s j x a t) → t.account.first ≡ s.account.first → (k : ℕ) (o : Option View) → d.next.phaser ≡ put (seat s) k o → ((v : View) → o ≡ Some v → LevelView l s.account.first v) → Rose l t
-  sits x a t d e k o p new = stays x a t d e (everyone_put (LevelView l s.account.first) s t k o (shown_seat J t d.next (put (seat s) k o) d.shows p) new g.each)
+  sits : (x : Action V) (a : Answer V) (t : State V) (d : Accepted J s j x a t) → t.account.first ≡ s.account.first → (k : ℕ) (o : Option View) → d.next.phaser ≡ put (seat s) k o → ((v : View) → o ≡ Some v → LevelView l s.account.first v) → ((v : View) → o ≡ Some v → InRange v) → Rose l t
+  sits x a t d e k o p new ranged =
+      let at = shown_seat J t d.next (put (seat s) k o) d.shows p in
+      stays x a t d e (everyone_put (LevelView l s.account.first) s t k o at new g.each) (everyone_put InRange s t k o at ranged g.counted)
 
   same_seats : (x : Action V) (a : Answer V) (t : State V) (d : Accepted J s j x a t) → t.account.first ≡ s.account.first → d.next.phaser ≡ seat s → Rose l t
-  same_seats x a t d e p = stays x a t d e (λ k v q. g.each k v (sym (shown_seat J t d.next (seat s) d.shows p k) ∙ q))
+  same_seats x a t d e p =
+      let at = shown_seat J t d.next (seat s) d.shows p in
+      stays x a t d e (λ k v q. g.each k v (sym (at k) ∙ q)) (λ k v q. g.counted k v (sym (at k) ∙ q))
 
   -- an accepted call keeps the invariant
   pub step_good : (x : Action V) (a : Answer V) (t : State V) → Accepted J s j x a t → Rose l t
@@ -128,11 +148,13 @@ module _ {V : Type 0} (J : Ghosts V) (l : ℕ) (s : State V) (g : Good l s) (j :
       let rule = d.applies.0 in
       sits (Register other r) a t d d.limits.first other (Some (newcomer_view r v)) rule.leaves
       (λ w e. of_some (LevelView l s.account.first) (newcomer_view r v) w e (level_bring v.mode r v.sp v.wp l s.account.first rule.waiter rule.signer (g.each j v rule.member)))
+      (λ w e. of_some InRange (newcomer_view r v) w e (let c = g.counted j v rule.member in record { signed = c.signed; observed = c.observed }))
   step_good Signal a t d =
       let v = d.view in
       let rule = d.applies.0 in
       sits Signal a t d d.limits.first j (Some (view_after_signal v)) rule.leaves
       (λ w e. of_some (LevelView l s.account.first) (view_after_signal v) w e (level_signal v.mode v.sp v.wp l s.account.first rule.turn (g.each j v rule.member)))
+      (λ w e. of_some InRange (view_after_signal v) w e (record { signed = d.limits.room; observed = (g.counted j v rule.member).observed }))
   step_good Wait a t d =
       let v = d.view in
       let rule = d.applies.0 in
@@ -149,11 +171,12 @@ module _ {V : Type 0} (J : Ghosts V) (l : ℕ) (s : State V) (g : Good l s) (j :
         good = record {
           table = d.limits.table;
           each = subst (λ (i : ℕ). Everyone (LevelView (max l n) i) t) (sym d.limits.first) all;
+          counted = everyone_put InRange s t j (Some (view_after_wait v)) (shown_seat J t d.next _ d.shows rule.leaves) (λ w e. of_some InRange (view_after_wait v) w e (record { signed = (g.counted j v rule.member).signed; observed = d.limits.room })) g.counted;
           behind = subst (λ (i : ℕ). i ≤ max l n - 1) (sym d.limits.first) b.1;
           window = d.limits.window;
         };
       }
-  step_good Drop a t d = sits Drop a t d d.limits.first j None d.applies.0.leaves (λ w e. absurd (none_some w e))
+  step_good Drop a t d = sits Drop a t d d.limits.first j None d.applies.0.leaves (λ w e. absurd (none_some w e)) (λ w e. absurd (none_some w e))
   step_good (Send x) a t d = same_seats (Send x) a t d d.limits.first d.applies.1
   step_good AskResult a t d = same_seats AskResult a t d d.limits.first (ap (λ (c : PhaserState V). c.phaser) d.applies.1)
   step_good AskView a t d = same_seats AskView a t d d.limits.first (ap (λ (c : PhaserState V). c.phaser) d.applies.1)
@@ -166,6 +189,10 @@ made_good J j mode limit h = record {
       let o : Option View = put (λ i. None) j (Some (first_view mode)) k in
       let at : o ≡ Some v = sym (made_seat J j mode limit h k) ∙ e in
       ⊎_elim (λ c. of_some (LevelView 0 0) (first_view mode) v (sym c.1 ∙ at) (level_new mode)) (λ c. absurd (none_some v (sym c.1 ∙ at))) (put_cases (λ i. None) j (Some (first_view mode)) k);
+  counted = λ k v e.
+      let o : Option View = put (λ i. None) j (Some (first_view mode)) k in
+      let at : o ≡ Some v = sym (made_seat J j mode limit h k) ∙ e in
+      ⊎_elim (λ c. of_some InRange (first_view mode) v (sym c.1 ∙ at) (record { signed = lit≤ tt; observed = lit≤ tt })) (λ c. absurd (none_some v (sym c.1 ∙ at))) (put_cases (λ i. None) j (Some (first_view mode)) k);
   behind = omega arith;
   window = length-replicate KEPT J.neutral;
 }

@@ -20,3 +20,5 @@ pub mod Agree
 pub mod Fine
 pub mod Refusals
 pub mod Law
+pub mod Moves
+pub mod Places

@@ -85,7 +85,7 @@ module _ {V : Type 0} (l : ℕ) (s : State V) (g : Good l s) (j : ℕ) where
             λ e. of_board (PastLastPass j) refl,
             λ e. (
               λ e. no_cell j,
-              λ e. held Expected (total_rules s.account.first (me.sp + 1)) (send_kept here sw (sign_in_turn me.mode me.sp me.wp ((good_sound l s g).views j me (present (seat s j) here)) turn (sw_mode me.mode sw)), tt),
+              λ e. held Expected (total_rules s.account.first (me.sp + 1)) (send_kept here sw (sign_in_turn me.mode me.sp me.wp ((good_sound l s g).seats.views j me (present (seat s j) here)).counts turn (sw_mode me.mode sw)), tt),
             ),
           ),
         ),

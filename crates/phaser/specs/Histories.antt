@@ -1,16 +1,19 @@
 -- Histories: calls one after another with what they are answered, and what is said of them.
-use Rattle.std.specs.Prelude.{ℕ, cond, List, [], ◌∷◌, map, filter, flat_map, zip, Ok, Err, Result, ◌==◌}
+use Rattle.std.specs.Prelude.{ℕ, cond, List, [], ◌∷◌, ◌++◌, map, filter, flat_map, zip, Ok, Err, Result, ◌==◌}
 use Rattle.std.specs.List.{AllByRecursion}
 use Rattle.refusal.specs.declared.Refusal.{Refusal}
 use Rattle.refusal.specs.Trace.{trace}
 use Rattle.joining.specs.declared.Joining.{Ghosts}
+use Rattle.calls.specs.declared.Mode.{Mode}
+use Rattle.calls.specs.declared.Mode.TheVariants.{SignalWait}
 use Rattle.calls.specs.declared.views.View.{View}
 use Rattle.calls.specs.declared.actions.Action.{Action}
 use Rattle.calls.specs.declared.actions.Action.TheVariants.{Register, Send}
 use Rattle.calls.specs.declared.actions.Call.{Call}
 use Rattle.calls.specs.declared.actions.Answer.{Answer}
-use Rattle.calls.specs.declared.actions.Answer.TheVariants.{Sent, Total, Viewed}
+use Rattle.calls.specs.declared.actions.Answer.TheVariants.{Observed, Sent, Total, Viewed}
 use Rattle.phaser.specs.State.{State}
+use Rattle.phaser.specs.Rules.{put}
 use Rattle.phaser.specs.Steps.{step}
 
 -- a call with what it was answered
@@ -95,3 +98,19 @@ module _ {V : Type 0} where
 
   abbrev pub entrants : List (AcceptedCall V) → List ℕ
   entrants ds = flat_map (λ d. entrant d.0.action) ds
+
+  -- ---- passes that waits in mode SW answered
+
+  -- the mode in which each station entered last
+  abbrev pub modes_after : (ℕ → Mode) → Action V → ℕ → Mode
+  modes_after modes (Register other r) = put modes other r
+  modes_after modes _ = modes
+
+  abbrev pub sw_pass : Answer V → Mode → List ℕ
+  sw_pass (Observed n) SignalWait = n ∷ []
+  sw_pass _ _ = []
+
+  -- in their order, the stations' modes being those given at first
+  abbrev pub sw_passes : (ℕ → Mode) → List (AcceptedCall V) → List ℕ
+  sw_passes modes [] = []
+  sw_passes modes (d ∷ ds) = sw_pass d.1 (modes d.0.caller) ++ sw_passes (modes_after modes d.0.action) ds

@@ -1,5 +1,5 @@
 -- The law of the record, over every history of a board and an accumulator just made.
-use Rattle.std.specs.Prelude.{◌≡◌, ℕ, ◌<◌, ◌≢◌, List, [], ◌∷◌, ◌++◌, map, zip, Some, Result}
+use Rattle.std.specs.Prelude.{◌≡◌, ℕ, ◌<◌, ◌≢◌, List, [], ◌∷◌, ◌++◌, ◌-◌, fold, max, map, zip, Some, Result}
 use Rattle.std.specs.List.{slice_get, AllByRecursion}
 use Rattle.refusal.specs.declared.Refusal.{Refusal}
 use Rattle.refusal.specs.declared.Refusal.TheVariants.{LastPassKept, NotKept}
@@ -12,9 +12,10 @@ use Rattle.calls.specs.declared.views.View.{View}
 use Rattle.calls.specs.declared.actions.Call.{Call}
 use Rattle.calls.specs.declared.actions.Answer.{Answer}
 use Rattle.calls.specs.Views.{Before}
-use Rattle.phaser.specs.State.{State, new_state, SoundState}
+use Rattle.phaser.specs.State.{State, seat, new_state, SoundState}
 use Rattle.phaser.specs.Agreement.{Agrees}
-use Rattle.phaser.specs.Histories.{Event, AcceptedCall, call_step, accepted_calls, history, final_state, refusals, views_read, values_for, EachTotal, answered_actions, actions_by, entrants}
+use Rattle.phaser.specs.Steps.{view_of}
+use Rattle.phaser.specs.Histories.{Event, AcceptedCall, call_step, accepted_calls, history, final_state, refusals, views_read, values_for, EachTotal, answered_actions, actions_by, entrants, sw_passes}
 
 -- no view read later happened before one read earlier
 abbrev pub ReadInOrder : List View → Type 0
@@ -69,6 +70,8 @@ module _ {V : Type 0} where
       pub complete : Complete (accepted_calls h)
       pub order_free : (others : List (Call V)) → OrderFree first_member h t (history J start others) (final_state J start others)
       pub expected : AllByRecursion Expected (refusals h)
+      -- the first kept pass is one less than the largest pass that an accepted SW wait answered, and 0 where there is none
+      pub moves : t.account.first ≡ fold max 0 (sw_passes (λ k. (view_of (seat start k)).mode) (accepted_calls h)) - 1
 
     -- ---- a board that is called more than once
 
@@ -84,6 +87,11 @@ module _ {V : Type 0} where
     RecordGoesOn s more t =
         (first_member : ℕ) (mode : Mode) (limit : ℕ) (h : List (Event V)) → RecordOf first_member mode limit h s →
         RecordOf first_member mode limit (h ++ more) t × LawOfTheRecord first_member (new_state J first_member mode limit) (h ++ more) t
+
+    -- two boards made alike, however each was called: where the same is accepted they have answered alike and are the same
+    abbrev pub RecordsAlike : Type 0
+    RecordsAlike = (first_member : ℕ) (mode : Mode) (limit : ℕ) (g h : List (Event V)) (s t : State V) →
+        RecordOf first_member mode limit g s → RecordOf first_member mode limit h t → OrderFree first_member g s h t
 
     -- of calls by the rules, by any callers with any arguments, on any board, made and called before in any way
     abbrev pub RecordsGoOn : Type 0

@@ -7,3 +7,4 @@ pub mod Agreement
 pub mod Histories
 pub mod Law
 pub mod Accounts
+pub mod Places

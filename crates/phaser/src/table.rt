@@ -15,7 +15,8 @@ const MAY: [[bool; 3]; 7] = [
     [true, true, true],
 ];
 
-/// Which newcomer a member may bring in: a row for each caller's mode, a column for each newcomer's.
+/// Which newcomer a member may bring in: a row for each caller's mode, a column for each
+/// newcomer's.
 const BRINGS: [[bool; 3]; 3] = [
     [true, true, true],
     [false, true, false],

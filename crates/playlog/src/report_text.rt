@@ -27,7 +27,8 @@ fn word_for(alike: bool) -> &'static str
     if alike { "alike" } else { "differs" }
 }
 
-/// The lines of the records, played eagerly, and a last line with their count and whether the lazy answers are alike.
+/// The lines of the records, played eagerly, and a last line with their count and whether the
+/// lazy answers are alike.
 fn played(heap: Global, log: &Log<'_>) -> Result<String, AllocError>
     ensures { IfOk result (λ text. string_bytes text ≡ played_text (log_outcomes log.now)) }
 {

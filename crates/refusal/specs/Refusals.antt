@@ -1,5 +1,5 @@
 -- The number, the layer and the place of each refusal.
-use Rattle.std.specs.Prelude.{ℕ}
+use Rattle.std.specs.Prelude.{ℕ, cond, nat_le}
 use Rattle.refusal.specs.declared.Layer.{Layer}
 use Rattle.refusal.specs.declared.Layer.TheVariants.{Maker, Log, Record, Board, Accumulator}
 use Rattle.refusal.specs.declared.Refusal.{Refusal}
@@ -67,3 +67,11 @@ place (NotSigned caller) = caller
 place (NothingObserved caller) = caller
 place (NoCell station) = station
 place (NotKept pass) = pass
+
+-- the layer of a number: the maker's are 1 and 2, the log's 3 to 7, the record's 8, the board's 9 to 16, the accumulator's 17 and 18
+abbrev pub layer_of_number : ℕ → Layer
+layer_of_number n =
+    cond (nat_le n 2) Maker
+    (cond (nat_le n 7) Log
+    (cond (nat_le n 8) Record
+    (cond (nat_le n 16) Board Accumulator)))

@@ -2,8 +2,8 @@
 
 #![tactic(auto)]
 
-ghost use Rattle.std.specs.Prelude.{◌≡◌};
-ghost use Rattle.refusal.specs.Refusals.{number, layer, place};
+ghost use Rattle.std.specs.Prelude.{◌≡◌, ◌≢◌, ℕ};
+ghost use Rattle.refusal.specs.Refusals.{number, layer, layer_of_number, place};
 
 pub mod limits;
 pub mod text;
@@ -62,6 +62,8 @@ pub enum Refusal {
 }
 
 impl Refusal {
+    ghost use Rattle.refusal.specs.declared.Refusal.TheVariants.{LastPassKept};
+
     /// The number by which the refusal is printed.
     pub fn number(&self) -> u8
         ensures { result ≡ number self.now }
@@ -88,9 +90,11 @@ impl Refusal {
         }
     }
 
-    /// The layer that refuses.
+    /// The layer that refuses, which follows from the number, but for the 14 of a move on: that
+    /// is the accumulator's.
     pub fn layer(&self) -> Layer
-        ensures { result ≡ layer self.now }
+        ensures layer { result ≡ layer self.now }
+        ensures follows { ((first : ℕ) → self.now ≢ LastPassKept first) → result ≡ layer_of_number (number self.now) }
     {
         match *self {
             Refusal::Limit { .. } | Refusal::TooFewCells { .. } => Layer::Maker,
@@ -113,7 +117,8 @@ impl Refusal {
         }
     }
 
-    /// What is refused: the limit, the count of cells, the block, the record, the station or the pass.
+    /// What is refused: the limit, the count of cells, the block, the record, the station or the
+    /// pass.
     pub fn place(&self) -> usize
         ensures { result ≡ place self.now }
     {

@@ -26,7 +26,8 @@ impl AnyTicket {
         }
     }
 
-    /// Brings in another station with the counts of its own, and answers them with the newcomer's ticket.
+    /// Brings in another station with the counts of its own, and answers them with the newcomer's
+    /// ticket.
     pub fn register<A: Accumulator>(
         &self,
         board: &mut TicketBoard<A>,

@@ -3,8 +3,8 @@ ghost use Rattle.ticket.specs.Truth.{TicketsTellTheTruth};
 
 use joining::Joining;
 
-/// On a board that is reached through its tickets alone, each ticket that is out tells the truth of its station's view, so that no call is refused for
-/// being out of turn.
+/// On a board that is reached through its tickets alone, each ticket that is out tells the truth
+/// of its station's view, so that no call is refused for being out of turn.
 pub fn tickets_tell_the_truth<V: Joining>()
     ensures { TicketsTellTheTruth V.Joining }
 {}

@@ -1,4 +1,5 @@
-//! Tickets: callers hold one in place of a station's number, and its type says what the station may do next.
+//! Tickets: callers hold one in place of a station's number, and its type says what the station
+//! may do next.
 
 #![tactic(auto)]
 

@@ -2,7 +2,11 @@
 ghost use Rattle.std.specs.Prelude.{◌≡◌, Some, None, ⊤, IfOk, OnOk, IsOk, MatchResult};
 ghost use Rattle.calls.specs.declared.actions.Action.TheVariants.{Register, Signal, Wait, Drop, Send, Result as AskResult, View as AskView};
 ghost use Rattle.calls.specs.declared.actions.Answer.TheVariants.{Registered, Signaled, Observed, Dropped, Sent, Total, Viewed};
+ghost use Rattle.phaser.specs.State.{seat};
+ghost use Rattle.phaser.specs.Rules.{view_after_wait};
+ghost use Rattle.phaser.specs.Steps.{view_of};
 ghost use Rattle.board.specs.Board.{as_answer, board_step};
+ghost use Rattle.board.specs.Holders.{holders_of, WaitsFor};
 ghost use Rattle.ticket_kinds.specs.Kinds.{newcomer_kind};
 ghost use Rattle.ticket.specs.Calls.{by_number, without_ticket, IsTicket, ComesBack};
 ghost use Rattle.ticket.specs.Truth.{Truthful, Keeps};
@@ -14,9 +18,11 @@ use calls::{Mode, View};
 use refusal::Refusal;
 use ticket_kinds::{MayRead, MaySend, MaySign, MayWait, TicketKind};
 
-// Each call is promised as one equation with the call by number (`result`), and says what it does to the truth of tickets (`keeps`).
+// Each call is promised as one equation with the call by number (`result`), and says what it does
+// to the truth of tickets (`keeps`).
 impl<K: TicketKind> Ticket<K> {
-    /// Brings in another station with the counts of its own, and answers them with the newcomer's ticket.
+    /// Brings in another station with the counts of its own, and answers them with the newcomer's
+    /// ticket.
     pub fn register<A: Accumulator>(
         &self,
         board: &mut TicketBoard<A>,
@@ -66,7 +72,8 @@ impl<K: TicketKind> Ticket<K> {
 }
 
 impl<K: MaySign> Ticket<K> {
-    /// Raises the passes that its station has signed by one, and answers them with the station's next ticket.
+    /// Raises the passes that its station has signed by one, and answers them with the station's
+    /// next ticket.
     pub fn sign<A: Accumulator>(
         self,
         board: &mut TicketBoard<A>,
@@ -82,7 +89,8 @@ impl<K: MaySign> Ticket<K> {
 }
 
 impl<K: MayWait> Ticket<K> {
-    /// Raises the passes that its station has observed by one, and answers them with the station's next ticket.
+    /// Raises the passes that its station has observed by one, and answers them with the
+    /// station's next ticket.
     pub fn wait<A: Accumulator>(
         self,
         board: &mut TicketBoard<A>,
@@ -94,6 +102,14 @@ impl<K: MayWait> Ticket<K> {
     {
         let answer = board.board.wait(self.station());
         self.hand_over(answer)
+    }
+
+    /// The stations that its station waits for, as a set with its count: bit k is station k's.
+    pub fn holders<A: Accumulator>(&self, board: &TicketBoard<A>) -> Result<(u64, u32), Refusal>
+        ensures answer { result ≡ holders_of board.now.state.members self.now }
+        ensures who { IfOk result (λ h. WaitsFor board.now.state.members (view_after_wait (view_of (seat board.now.state self.now))) h.0) }
+    {
+        board.board.holders(self.station())
     }
 }
 

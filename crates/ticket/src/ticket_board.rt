@@ -1,6 +1,8 @@
 //! A board that is reached through its tickets alone.
-ghost use Rattle.std.specs.Prelude.{◌≡◌, Ok};
+ghost use Rattle.std.specs.Prelude.{◌≡◌, ℕ, [], Ok};
 ghost use Rattle.refusal.specs.Rules.{verdict};
+ghost use Rattle.accumulator.specs.Meaning.{new_meaning};
+ghost use Rattle.phaser.specs.Law.{RecordOf};
 ghost use Rattle.board.specs.Entry.{board_rules};
 ghost use Rattle.board.specs.Board.{new_state_on};
 ghost use Rattle.ticket_kinds.specs.Kinds.{first_kind};
@@ -42,6 +44,8 @@ impl<A: Accumulator> TicketBoard<A> {
         requires { verdict (board_rules first) ≡ Ok tt }
         ensures board { result.0
             ≡ record { state = new_state_on first mode (A.meaning accumulator); cells = A.cells accumulator } }
+        ensures record { (limit : ℕ) → A.meaning accumulator ≡ new_meaning A.Value.Joining limit →
+            RecordOf A.Value.Joining first mode limit [] result.0.state }
         ensures ticket { IsTicket (first_kind mode) first result.1 }
         ensures truth { Truthful result.0.state first (first_kind mode) }
     {

@@ -1,4 +1,5 @@
-//! A board called in several ways one after another: the law of all of it follows from the contracts of the board.
+//! A board called in several ways one after another: the law of all of it follows from the
+//! contracts of the board.
 
 ghost use Rattle.std.specs.Prelude.{◌≡◌, ℕ, [], ◌∷◌, ◌++◌, IfOk, Ok, zip};
 ghost use Rattle.refusal.specs.Rules.{verdict};
@@ -69,7 +70,8 @@ pub fn work_from_new<A: Accumulator + Drop>(
     Ok((board, replies, reply, last))
 }
 
-/// A call by its own method: its contract says what the rules say, and what follows the rules goes on the record.
+/// A call by its own method: its contract says what the rules say, and what follows the rules
+/// goes on the record.
 pub fn sign<A: Accumulator>(board: &mut Board<A>, caller: u8) -> Result<u32, Refusal>
     ensures { RecordGoesOn A.Value.Joining board.old.state
         ((record { caller = caller; action = Signal }, as_answer Signaled result) ∷ []) board.new.state }
@@ -78,8 +80,9 @@ pub fn sign<A: Accumulator>(board: &mut Board<A>, caller: u8) -> Result<u32, Ref
     board.signal(caller)
 }
 
-/// Two boards made alike, on accumulators of any two types, and a list played on each: where they accept the same calls, each station's in the same order and no number entering twice,
-/// they have answered alike and end the same.
+/// Two boards made alike, on accumulators of any two types, and a list played on each: where they
+/// accept the same calls, each station's in the same order and no number entering twice, they
+/// have answered alike and end the same.
 pub fn in_two_orders<A: Accumulator + Drop, B: Accumulator<Value = A::Value> + Drop>(
     first: u8,
     mode: Mode,

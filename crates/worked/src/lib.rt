@@ -1,4 +1,5 @@
-//! Examples over all layers: shown from the definitions, run as tests, and a board called in several ways.
+//! Examples over all layers: shown from the definitions, run as tests, and a board called in
+//! several ways.
 
 #![tactic(auto)]
 
@@ -6,6 +7,8 @@ ghost use Rattle.worked.specs.Examples.{WorkedExamples};
 
 #[cfg(test)]
 mod accumulator_tests;
+#[cfg(test)]
+mod board_tests;
 pub mod chained;
 #[cfg(test)]
 mod joining_tests;

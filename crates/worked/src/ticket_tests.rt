@@ -63,6 +63,7 @@ fn each_kind_of_ticket_has_its_calls(rt: HostRuntime) {
     assert_eq!(rt; wp, 1);
     assert_eq!(rt; zero.result(&board), Ok((1, Length::new(7))));
     let (_, three) = granted(&rt, three.wait(&mut board));
+    assert_eq!(rt; three.holders(&board), Ok((3, 2)));
     let three = match three.wait(&mut board) {
         Ok(_) => panic!(rt; "not all have signed"),
         Err((refusal, three)) => {

@@ -7,4 +7,4 @@ use Rattle.worked.proofs.chained.sign.Goals as goal
 pub returns : goal.returns
 returns g c =
     let made = c.signal.ensures in
-    c.records_go_on.ensures c.args.board.now.state c.signal.new.self.state (record { caller = c.args.caller; action = Signal } ∷ []) (as_answer Signaled c.signal.result ∷ []) (λ i. ((made i).0 ∷ [], (made i).1.state))
+    c.records_go_on.ensures.go_on c.args.board.now.state c.signal.new.self.state (record { caller = c.args.caller; action = Signal } ∷ []) (as_answer Signaled c.signal.result ∷ []) (λ i. ((made i).0 ∷ [], (made i).1.state))
