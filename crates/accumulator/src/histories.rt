@@ -46,7 +46,8 @@ pub fn play<A: Accumulator>(
 ) -> Result<Vec<Answer<A::Value>>, AllocError>
     ensures { let before = account_of A.meaning A.cells accumulator.old in
         let after = account_of A.meaning A.cells accumulator.new in
-        MatchResult result (λ v. (v.items, after) ≡ trace (account_step A.Value.Joining A.changes) before calls.now) (λ _. after ≡ before) }
+        let played = trace (account_step A.Value.Joining A.changes) before calls.now in
+        MatchResult result (λ v. (v.items, after) ≡ played) (λ _. after ≡ before) }
 {
     let mut answers = Vec::with_capacity(heap, calls.len())?;
     for call in calls {
@@ -71,7 +72,8 @@ pub fn play_both<A: Accumulator, B: Accumulator<Value = A::Value>>(
         MatchResult result (λ v. (v.0.items, after) ≡ played) (λ _. (after ≡ before) ⊎ (after ≡ played.1)) }
     ensures right { let before = account_of B.meaning B.cells right.old in
         let after = account_of B.meaning B.cells right.new in
-        MatchResult result (λ v. (v.1.items, after) ≡ trace (account_step A.Value.Joining B.changes) before calls.now) (λ _. after ≡ before) }
+        let played = trace (account_step A.Value.Joining B.changes) before calls.now in
+        MatchResult result (λ v. (v.1.items, after) ≡ played) (λ _. after ≡ before) }
 {
     let left_answers = play(left, calls, heap)?;
     let right_answers = play(right, calls, heap)?;

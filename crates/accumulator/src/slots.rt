@@ -30,7 +30,8 @@ pub trait Slots {
     fn join(&mut self, station: u8, slot: Slot, value: Self::Value)
         requires { station < places self.old }
         ensures total { (limit : ℕ) → station < limit → limit ≤ places self.old →
-            OneChanged (total self.old limit) (total self.new limit) slot.index (Self.Value.joined (total self.old limit slot.index) value) }
+            let joined = Self.Value.joined (total self.old limit slot.index) value in
+            OneChanged (total self.old limit) (total self.new limit) slot.index joined }
         ensures places { places self.new ≡ places self.old }
         ensures cells { cells self.new ≡ with_values (join_change station slot.index value) (cells self.old) };
 

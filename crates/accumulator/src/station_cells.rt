@@ -52,10 +52,11 @@ impl<'a, V: Joining + Copy> Lazy<'a, V> {
     pub fn new(limit: usize, cells: &'a mut [V]) -> Lazy<'a, V>
         requires { verdict (lazy_rules limit (length cells.old)) ≡ Ok tt }
         ensures meaning { ⟦<Lazy<'a, V> as Accumulator>⟧.meaning result ≡ new_meaning V.Joining limit }
-        ensures cells { result.slots
+        ensures cells { ⟦<Lazy<'a, V> as Accumulator>⟧.cells result
             ≡ record { names = cells.entry.ghost_name ∷ []; values = with_neutral_front V.Joining (KEPT * limit) cells.old } }
         ensures own { (calls : List (Call V)) →
-            OwnCells V.Joining (station_changes V.Joining) (new_account V.Joining limit result.slots) calls }
+            let start = new_account V.Joining limit (⟦<Lazy<'a, V> as Accumulator>⟧.cells result) in
+            OwnCells V.Joining (station_changes V.Joining) start calls }
     {
         cells[..KEPT * limit].fill_with(|| V::neutral());
         Windowed {

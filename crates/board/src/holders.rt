@@ -35,10 +35,11 @@ fn held_by(seats: &[Option<View>; SEATS], wp: u32) -> u64
 
 impl<A: Accumulator> Board<A> {
     /// The stations that a waiter waits for, as a set with its count: bit k is station k's. It is
-    /// empty just where the wait's pass is signed by every signaler.
+    /// empty just where the wait's pass is signed by every signaler. Refused with 9, 10 and 12.
     pub fn holders(&self, waiter: u8) -> Result<(u64, u32), Refusal>
         ensures answer { result ≡ holders_of self.now.state.members waiter }
-        ensures who { IfOk result (λ h. WaitsFor self.now.state.members (view_after_wait (view_of (seat self.now.state waiter))) h.0) }
+        ensures who { let after = view_after_wait (view_of (seat self.now.state waiter)) in
+            IfOk result (λ h. WaitsFor self.now.state.members after h.0) }
     {
         let member = self.members.enter(waiter, Verb::Wait)?;
         let set = held_by(&self.members.seats, member.view.wp);

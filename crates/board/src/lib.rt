@@ -47,7 +47,7 @@ impl<A: Accumulator> Model for Board<A> {
 }
 
 impl<A: Accumulator> Board<A> {
-    /// Whether `new` can be called: it refuses a first member that is no station.
+    /// Whether `new` can be called: it refuses a first member that is no station with 9.
     pub fn trial(first: u8) -> Result<(), Refusal>
         ensures { result ≡ verdict (board_rules first) }
     {
@@ -69,7 +69,8 @@ impl<A: Accumulator> Board<A> {
         }
     }
 
-    /// Brings in another station with the caller's counts, and answers them.
+    /// Brings in another station with the caller's counts, and answers them. Refused with 9, 10, 11
+    /// and 12.
     pub fn register(&mut self, caller: u8, other: u8, mode: Mode) -> Result<(u32, u32), Refusal>
         ensures { (as_answer (λ c. Registered c.0 c.1) result, self.new)
             ≡ board_step A.Value.Joining A.changes self.old caller (Register other mode) }
@@ -87,7 +88,8 @@ impl<A: Accumulator> Board<A> {
         Ok((view.sp, view.wp))
     }
 
-    /// Raises the passes that the caller has signed by one, and answers them.
+    /// Raises the passes that the caller has signed by one, and answers them. Refused with 9, 10, 12,
+    /// 13 and 14.
     pub fn signal(&mut self, caller: u8) -> Result<u32, Refusal>
         ensures { (as_answer Signaled result, self.new) ≡ board_step A.Value.Joining A.changes self.old caller Signal }
     {
@@ -98,7 +100,9 @@ impl<A: Accumulator> Board<A> {
         Ok(sp)
     }
 
-    /// Raises the passes that the caller has observed by one, and answers them.
+    /// Raises the passes that the caller has observed by one, and answers them. In mode SW, where it
+    /// observes the first kept pass plus `LEAD`, the accumulator moves on. Refused with 9, 10, 12, 13,
+    /// 14 and 15.
     pub fn wait(&mut self, caller: u8) -> Result<u32, Refusal>
         ensures { (as_answer Observed result, self.new) ≡ board_step A.Value.Joining A.changes self.old caller Wait }
     {
@@ -115,7 +119,7 @@ impl<A: Accumulator> Board<A> {
         Ok(wp)
     }
 
-    /// Removes the caller.
+    /// Removes the caller. Refused with 9 and 10.
     pub fn drop(&mut self, caller: u8) -> Result<(), Refusal>
         ensures { (as_answer (λ _. Dropped) result, self.new)
             ≡ board_step A.Value.Joining A.changes self.old caller Drop }
@@ -125,7 +129,8 @@ impl<A: Accumulator> Board<A> {
         Ok(())
     }
 
-    /// Takes a value for the pass that the caller signs next, and answers that pass.
+    /// Takes a value for the pass that the caller signs next, and answers that pass. Refused with 9,
+    /// 10, 12, 13, 14, 17 and 18.
     pub fn send(&mut self, caller: u8, value: A::Value) -> Result<u32, Refusal>
         ensures { (as_answer Sent result, self.new)
             ≡ board_step A.Value.Joining A.changes self.old caller (Send value) }
@@ -136,7 +141,7 @@ impl<A: Accumulator> Board<A> {
         Ok(pass)
     }
 
-    /// The last pass that the caller has observed, and its total.
+    /// The last pass that the caller has observed, and its total. Refused with 9, 10, 12, 16 and 18.
     pub fn result(&self, caller: u8) -> Result<(u32, A::Value), Refusal>
         ensures { (as_answer (λ t. Total t.0 t.1) result, self.now)
             ≡ board_step A.Value.Joining A.changes self.now caller AskResult }
@@ -149,7 +154,7 @@ impl<A: Accumulator> Board<A> {
         Ok((view.wp, total))
     }
 
-    /// The caller's view.
+    /// The caller's view. Refused with 9 and 10.
     pub fn view(&self, caller: u8) -> Result<View, Refusal>
         ensures { (as_answer Viewed result, self.now) ≡ board_step A.Value.Joining A.changes self.now caller AskView }
     {

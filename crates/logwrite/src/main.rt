@@ -17,7 +17,8 @@ use steptext::steps_of;
 /// The longest text: 256 bytes for each step of the longest log.
 const MAX_TEXT_LEN: usize = 256 * FULL_COUNT * MAX_BLOCKS;
 
-/// All text that the reader gives. One that is too long is read no further, and refused as too many steps are.
+/// All text that the reader gives. One that is too long is read no further, and refused as too many
+/// steps are.
 fn read_text<R: Read + Drop>(heap: Global, reader: R) -> anyhow::Result<String>
     ensures { IfOk result (λ text. IfSome (R.remaining reader) (λ given. string_bytes text ≡ given)) }
 {
@@ -46,7 +47,8 @@ fn log_said(heap: Global, text: &str) -> anyhow::Result<Vec<u8>>
     Ok(log)
 }
 
-/// Writes the log that the reader's text says, and nothing else; where the text says none, nothing at all.
+/// Writes the log that the reader's text says, and nothing else; where the text says none, nothing
+/// at all.
 fn run<R: Read + Drop, W: Write>(heap: Global, reader: R, writer: &mut W) -> anyhow::Result<()>
     ensures written { OnOk result (IfSome (R.remaining reader) (λ text.
         IsSomeAnd (log_said text) (Appends (W.contents writer.old) (W.contents writer.new)))) }

@@ -19,7 +19,7 @@ use Rattle.phaser.specs.State.{State, seat, SoundState}
 use Rattle.phaser.specs.Rules.{put, view_after_signal, view_after_wait, newcomer_view, PhaserState, Applies}
 use Rattle.phaser.specs.Limits.{is_sw, reaches, first_after, HasRoom, WithinLimits, phaser_state, Shows, Accepted}
 use Rattle.phaser.specs.Steps.{view_of, all_signed, moving_rules, rules, answer_of, with_seat, state_by, state_of, step}
-use Rattle.phaser.specs.Agreement.{RulesAgree}
+use Rattle.phaser.specs.Agreement.{Agrees}
 use Rattle.phaser.proofs.Seats.{sw_mode, get_or-put}
 use Rattle.phaser.proofs.Turns.{present, vacant, sign_in_turn, may_sign, wait_in_turn, may_wait, admitted, may_admit, all_up, up_all, moves_within}
 use Rattle.phaser.proofs.Outcomes.{member, one_end}
@@ -217,7 +217,7 @@ module _ {V : Type 0} (J : Ghosts V) (s : State V) (sound : SoundState s) (j : �
       ap (λ (w : Verdict). (answer_by w (answered x), state_by w (left x) s)) (accepted (rules s j me x) holds)
       ∙ (λ i. (Ok (sym same.0 i), sym same.1 i))
 
-pub rules_agree_lem : {V : Type 0} (J : Ghosts V) → RulesAgree J
+pub rules_agree_lem : {V : Type 0} (J : Ghosts V) (s : State V) → SoundState s → (j : ℕ) (x : Action V) → Agrees J s j x
 rules_agree_lem J s sound j x = record {
   by_rule = accepts J s sound j x;
   by_step = accepted_step J s sound j x;

@@ -4,7 +4,7 @@ use Rattle.refusal.specs.declared.Refusal.{Refusal}
 use Rattle.joining.specs.declared.Joining.{Ghosts}
 use Rattle.calls.specs.declared.actions.Action.{Action}
 use Rattle.calls.specs.declared.actions.Answer.{Answer}
-use Rattle.phaser.specs.State.{State, SoundState}
+use Rattle.phaser.specs.State.{State}
 use Rattle.phaser.specs.Limits.{Accepted}
 use Rattle.phaser.specs.Steps.{step}
 
@@ -14,7 +14,3 @@ module _ {V : Type 0} (J : Ghosts V) where
     pub by_rule : (a : Answer V) (t : State V) → step J s j x ≡ (Ok a, t) → Accepted J s j x a t
     pub by_step : (a : Answer V) (t : State V) → Accepted J s j x a t → step J s j x ≡ (Ok a, t)
     pub refused : (r : Refusal) (t : State V) → step J s j x ≡ (Err r, t) → t ≡ s
-
-  -- for every station number and argument, wherever the views are sound
-  abbrev pub RulesAgree : Type 0
-  RulesAgree = (s : State V) → SoundState s → (j : ℕ) (x : Action V) → Agrees s j x

@@ -50,7 +50,7 @@ fn refused(heap: Global, refusal: Refusal) -> Result<String, AllocError>
     format!(in heap; "log no {refusal}\n")
 }
 
-/// What a log's steps are answered, or why it is refused. Only want of memory makes it fail.
+/// What a log's steps are answered, or why it is refused. It may give up for want of memory.
 pub fn report(heap: Global, bytes: &[u8]) -> Result<String, AllocError>
     ensures { IfOk result (λ text. string_bytes text ≡ report_text bytes.now) }
 {

@@ -107,7 +107,8 @@ impl<K: MayWait> Ticket<K> {
     /// The stations that its station waits for, as a set with its count: bit k is station k's.
     pub fn holders<A: Accumulator>(&self, board: &TicketBoard<A>) -> Result<(u64, u32), Refusal>
         ensures answer { result ≡ holders_of board.now.state.members self.now }
-        ensures who { IfOk result (λ h. WaitsFor board.now.state.members (view_after_wait (view_of (seat board.now.state self.now))) h.0) }
+        ensures who { let after = view_after_wait (view_of (seat board.now.state self.now)) in
+            IfOk result (λ h. WaitsFor board.now.state.members after h.0) }
     {
         board.board.holders(self.station())
     }
