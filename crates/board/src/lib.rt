@@ -22,9 +22,8 @@ use crate::members::{Member, Members};
 use crate::station::Station;
 use crate::turns::in_turn;
 use accumulator::{Accumulator, LEAD};
-use calls::{Mode, Verb, View};
+use calls::{Mode, Verb, View, brings};
 pub use histories::{play, play_both};
-use phaser::brings;
 use refusal::Refusal;
 use std::marker::Model;
 

@@ -6,8 +6,7 @@ ghost use Rattle.phaser.specs.Steps.{view_of, has_signed, all_signed};
 ghost use Rattle.board.specs.Entry.{entry_rules, first_members};
 
 use crate::station::Station;
-use calls::{Mode, Verb, View};
-use phaser::may;
+use calls::{Mode, Verb, View, may};
 use refusal::Refusal;
 use refusal::limits::STATIONS;
 use std::marker::Model;

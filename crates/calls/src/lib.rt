@@ -1,4 +1,5 @@
-//! The vocabulary of a phaser's calls: modes, views, the seven calls and their answers.
+//! The vocabulary of a phaser's calls: modes, views, the seven calls and their answers, and who may
+//! make which call.
 
 #![tactic(auto)]
 
@@ -9,9 +10,11 @@ use std::fmt;
 
 mod actions;
 pub mod codes;
+mod table;
 mod views;
 
 pub use actions::{Action, Answer, Call};
+pub use table::{brings, may, tables_stand};
 pub use views::{View, compare};
 
 /// What a member may do. A signaler signs passes, and a waiter observes them.

@@ -6,7 +6,7 @@ use Rattle.refusal.specs.Rules.{EveryRuleHolds}
 use Rattle.calls.specs.declared.Mode.{Mode}
 use Rattle.calls.specs.declared.Mode.TheVariants.{SignalWait, SignalOnly, WaitOnly}
 use Rattle.calls.specs.declared.views.View.{View}
-use Rattle.phaser.specs.Tables.{admits}
+use Rattle.calls.specs.Tables.{admits}
 use Rattle.calls.specs.Views.{signs, waits, SoundCounts}
 use Rattle.accumulator.specs.Window.{move_on_rules}
 use Rattle.accumulator.specs.declared.TheConstants.{LEAD}

@@ -14,7 +14,7 @@ use Rattle.calls.specs.declared.actions.Action.{Action}
 use Rattle.calls.specs.declared.actions.Action.TheVariants.{Register, Signal, Wait, Drop, Send, Result as AskResult, View as AskView}
 use Rattle.calls.specs.declared.actions.Answer.{Answer}
 use Rattle.calls.specs.declared.actions.Answer.TheVariants.{Registered, Signaled, Observed, Dropped, Sent, Total, Viewed}
-use Rattle.phaser.specs.Tables.{allowed, admits}
+use Rattle.calls.specs.Tables.{allowed, admits}
 use Rattle.calls.specs.Views.{signs}
 use Rattle.accumulator.specs.Window.{add_rules, total_rules, move_on_rules}
 use Rattle.accumulator.specs.Meaning.{answer_by, total_in, with_value, without_first}

@@ -14,10 +14,7 @@ ghost use Rattle.phaser.specs.Places.{PlacesDue};
 ghost use Rattle.phaser.specs.State.{State};
 ghost use Rattle.phaser.specs.Steps.{rules};
 
-mod table;
-
 use joining::Joining;
-pub use table::{brings, may, tables_stand};
 
 /// A refused call tells the place that its number asks for, and the rules are tried upward: the
 /// numbers of each list of rules never fall.

@@ -14,7 +14,7 @@ use Rattle.calls.specs.declared.views.View.{View}
 use Rattle.calls.specs.declared.actions.Action.{Action}
 use Rattle.calls.specs.declared.actions.Action.TheVariants.{Register, Signal, Wait, Drop, Send, Result as AskResult, View as AskView}
 use Rattle.calls.specs.Calls.{verb_in}
-use Rattle.phaser.specs.Tables.{allowed}
+use Rattle.calls.specs.Tables.{allowed}
 use Rattle.phaser.specs.State.{State, seat}
 use Rattle.phaser.specs.Limits.{reaches}
 use Rattle.phaser.specs.Steps.{sign_turn, wait_turn, all_signed, rules}

@@ -17,7 +17,7 @@ use Rattle.calls.specs.declared.actions.Action.{Action}
 use Rattle.calls.specs.declared.actions.Action.TheVariants.{Register, Signal, Wait, Drop, Send, Result as AskResult, View as AskView}
 use Rattle.calls.specs.declared.actions.Answer.{Answer}
 use Rattle.calls.specs.Calls.{verb_in}
-use Rattle.phaser.specs.Tables.{allowed, admits}
+use Rattle.calls.specs.Tables.{allowed, admits}
 use Rattle.accumulator.specs.Meaning.{answer_by, total_in}
 use Rattle.accumulator.specs.LentCells.{CellChanges as Writing}
 use Rattle.phaser.specs.State.{State, seat}

@@ -5,7 +5,7 @@ use Rattle.calls.specs.declared.Mode.TheVariants.{SignalWait, SignalOnly as SO, 
 use Rattle.calls.specs.declared.Verb.{Verb}
 use Rattle.calls.specs.declared.Verb.TheVariants.{Signal, Wait, Send}
 use Rattle.calls.specs.declared.views.View.{View}
-use Rattle.phaser.specs.Tables.{allowed}
+use Rattle.calls.specs.Tables.{allowed}
 use Rattle.ticket_kinds.specs.declared.Kind.{Kind}
 use Rattle.ticket_kinds.specs.declared.Kind.TheVariants.{Open, Signed, SignOnly, WaitOnly}
 

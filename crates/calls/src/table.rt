@@ -1,8 +1,8 @@
 //! One table decides who may do what, and one who may bring in whom.
 ghost use Rattle.std.specs.Prelude.{◌≡◌};
-ghost use Rattle.phaser.specs.Tables.{allowed, admits, calls_by_modes, modes_by_newcomers};
+ghost use Rattle.calls.specs.Tables.{allowed, admits, calls_by_modes, modes_by_newcomers};
 
-use calls::{Mode, Verb};
+use crate::{Mode, Verb};
 
 /// Which mode may make which call: a row for each call, a column for each mode.
 const MAY: [[bool; 3]; 7] = [
