@@ -4,7 +4,7 @@
 
 ghost use Rattle.std.specs.Prelude.{◌≡◌, IfOk, IfSome, IsNone, IsSomeAnd, OnOk, Some, string_bytes};
 ghost use Rattle.std.specs.Io.KnownBytes.{Appends, Keeps};
-ghost use Rattle.logwrite.specs.Said.{log_said};
+ghost use Rattle.steptext.specs.Said.{log_said};
 
 use anyhow::bail;
 use refusal::Refusal;

@@ -1,4 +1,7 @@
 pub mod Texts
 pub mod Words
 pub mod Lines
+pub mod Fits
+pub mod Printed
 pub mod Steps
+pub mod Said

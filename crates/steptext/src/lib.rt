@@ -1,12 +1,14 @@
-//! Steps read from lines of text, in the words in which they are printed.
+//! Steps read from lines of text, in the words in which they are printed, and printed as lines.
 
 #![tactic(auto)]
 
 mod expectations;
 mod line;
 mod lines;
+mod printed;
 mod words;
 
 pub use expectations::Expected;
 pub use line::step_of;
 pub use lines::{BadLine, steps_of};
+pub use printed::{text_of, text_of_log};

@@ -16,7 +16,7 @@ use Rattle.shiftlog.specs.Writing.{log_bytes, log_size, blocks_for, write_rules}
 use Rattle.shiftlog.proofs.Written.{length-blocks}
 use Rattle.steptext.specs.declared.lines.BadLine.{BadLine}
 use Rattle.steptext.specs.Steps.{steps_in}
-use Rattle.logwrite.specs.Said.{log_of}
+use Rattle.steptext.specs.Said.{log_of}
 use Rattle.logwrite.proofs.log_said.Goals as goal
 
 -- the front of a buffer to which the log of the steps was written
