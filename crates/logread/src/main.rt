@@ -2,7 +2,7 @@
 
 #![tactic(auto)]
 
-ghost use Rattle.std.specs.Prelude.{◌≡◌, IfErr, IfSome, IsErr, IsErrAnd, OnErr, OnOk, Ok, Some};
+ghost use Rattle.std.specs.Prelude.{◌≡◌, IfErr, IfSome, IsErr, IsErrAnd, OnOk, Ok, Some};
 ghost use Rattle.std.specs.Io.KnownBytes.{Appends, Keeps};
 ghost use Rattle.anyhow.specs.Error.{HasMessage};
 ghost use Rattle.refusal.specs.Rules.{verdict};
