@@ -5,3 +5,6 @@ pub mod NumbersAgain
 pub mod StepAgain
 pub mod StepsAgain
 pub mod LogAgain
+pub mod SaidSteps
+pub mod SaidLines
+pub mod LogOf

@@ -4,4 +4,5 @@ pub mod Lines
 pub mod Fits
 pub mod Printed
 pub mod Steps
+pub mod FromReader
 pub mod Said

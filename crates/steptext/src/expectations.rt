@@ -3,6 +3,7 @@ ghost use Rattle.std.specs.Prelude.{Some};
 ghost use Rattle.steptext.specs.Texts.{expected_text};
 
 use std::fmt;
+use textlines::MAX_LINE_LEN;
 
 /// What was expected where a line says no step.
 #[derive(Clone, Copy, Debug, PartialEq, Eq)]
@@ -13,7 +14,12 @@ pub enum Expected {
     Length,
     Deviation,
     Marks,
+    /// No further word.
     End,
+    /// Bytes that are text.
+    Text,
+    /// No more bytes than the longest line has.
+    ShortLine,
 }
 
 impl fmt::Display for Expected {
@@ -28,6 +34,8 @@ impl fmt::Display for Expected {
             Expected::Deviation => "a deviation, -32768 to 32767",
             Expected::Marks => "marks, 0 to 65535",
             Expected::End => "the end of the line",
+            Expected::Text => "text in UTF-8",
+            Expected::ShortLine => return write!(f, "a line of at most {MAX_LINE_LEN} bytes"),
         };
         write!(f, "{text}")
     }

@@ -3,12 +3,16 @@
 #![tactic(auto)]
 
 mod expectations;
+mod found;
 mod line;
 mod lines;
 mod printed;
+mod streams;
 mod words;
 
 pub use expectations::Expected;
+pub use found::{Found, Mismatch, Word};
 pub use line::step_of;
 pub use lines::{BadLine, steps_of};
 pub use printed::{text_of, text_of_log};
+pub use streams::{MAX_STEPS, NoLog, log_of_lines, read_steps};
