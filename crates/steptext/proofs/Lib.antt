@@ -1,5 +1,10 @@
 pub mod Numbers
 pub mod Prepended
+pub mod Cuts
+pub mod NumbersAgain
+pub mod StepAgain
+pub mod StepsAgain
+pub mod LogAgain
 pub mod SaidSteps
 pub mod SaidLines
 pub mod LogOf

@@ -1,4 +1,4 @@
-//! Steps read from lines of text, in the words in which they are printed.
+//! Steps read from lines of text, in the words in which they are printed, and printed as lines.
 
 #![tactic(auto)]
 
@@ -6,6 +6,7 @@ mod expectations;
 mod found;
 mod line;
 mod lines;
+mod printed;
 mod streams;
 mod words;
 
@@ -13,4 +14,5 @@ pub use expectations::Expected;
 pub use found::{Found, Mismatch, Word};
 pub use line::step_of;
 pub use lines::{BadLine, steps_of};
+pub use printed::{text_of, text_of_log};
 pub use streams::{MAX_STEPS, NoLog, log_of_lines, read_steps};

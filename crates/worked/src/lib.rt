@@ -15,6 +15,8 @@ mod joining_tests;
 #[cfg(test)]
 mod playlog_tests;
 #[cfg(test)]
+mod printed_tests;
+#[cfg(test)]
 mod shiftlog_tests;
 #[cfg(test)]
 mod steptext_tests;
