@@ -1,4 +1,4 @@
--- The parts of a call's rules that several calls share.
+-- How a board is made, and the parts of a call's rules that several calls share.
 use Rattle.std.specs.Prelude.{ℕ, ◌+◌, List, [], ◌∷◌, replicate, is_some, Some, None, Option, Result, slice_index_or, slice_set}
 use Rattle.refusal.specs.declared.Refusal.{Refusal}
 use Rattle.refusal.specs.declared.Refusal.TheVariants.{NotMember}

@@ -1,4 +1,5 @@
-//! The pass board: a phaser with an accumulator, and its seven calls.
+//! The pass board: a phaser with an accumulator, its seven calls, whom a waiter waits for, and lists
+//! of calls played.
 
 #![tactic(auto)]
 

@@ -1,4 +1,4 @@
--- Who signs and who waits, and when one view happened before another.
+-- Who signs and who waits, when one view happened before another, and which counts a view may have.
 use Rattle.std.specs.Prelude.{◌≡◌, ℕ, ◌+◌, ◌<◌, ◌≤◌, Bool, true, false}
 use Rattle.calls.specs.declared.Mode.{Mode}
 use Rattle.calls.specs.declared.Mode.TheVariants.{SignalWait, SignalOnly, WaitOnly}

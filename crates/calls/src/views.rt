@@ -1,4 +1,4 @@
-//! A member's view, and which of two views happened before the other.
+//! Who signs and who waits, a member's view, and which of two views happened before the other.
 ghost use Rattle.std.specs.Prelude.{◌≡◌, ◌↔◌, IsTrue, Some};
 ghost use Rattle.calls.specs.Views.{signs, waits, Before};
 ghost use Rattle.calls.specs.Words.{view_text};

@@ -1,4 +1,5 @@
-//! Reads a log from standard input and prints its steps, or why it is refused.
+//! Reads a log from standard input, plays it on a board, and prints what each of its steps is
+//! answered, or why the log is refused.
 
 #![tactic(auto)]
 

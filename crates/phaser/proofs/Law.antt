@@ -1,4 +1,4 @@
--- Every list of calls on a board just made is recorded lawfully.
+-- Every list of calls on a board just made is recorded lawfully, and what is called later goes on its record.
 use Rattle.std.proofs.Common.{◌≡◌, ℕ, ◌<◌, List, [], ◌∷◌, Ok, Err, refl, ap, map, zip, ◌++◌, sym, subst₂, ◌∙◌}
 use Rattle.refusal.specs.declared.Refusal.{Refusal}
 use Rattle.refusal.specs.declared.limits.TheConstants.{STATIONS}

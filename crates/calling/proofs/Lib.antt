@@ -1,0 +1,2 @@
+pub mod OneTotal
+pub mod Stepped

@@ -1,0 +1,2 @@
+pub mod Hottest
+pub mod Totals
