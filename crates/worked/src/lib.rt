@@ -1,5 +1,4 @@
-//! Examples over all layers: shown from the definitions, run as tests, and a board called in
-//! several ways.
+//! Examples over all layers: shown from the definitions, and run as tests.
 
 #![tactic(auto)]
 
@@ -9,7 +8,6 @@ ghost use Rattle.worked.specs.Examples.{WorkedExamples};
 mod accumulator_tests;
 #[cfg(test)]
 mod board_tests;
-pub mod chained;
 #[cfg(test)]
 mod joining_tests;
 #[cfg(test)]

@@ -1,5 +1,5 @@
 use Rattle.std.proofs.Common.{[]}
-use Rattle.worked.proofs.chained.work_from_new.Goals as goal
+use Rattle.calling.proofs.chained.work_from_new.Goals as goal
 
 -- a board just made has an empty record
 pub returns : goal.returns

@@ -2,7 +2,7 @@ use Rattle.std.proofs.Common.{[], ◌∷◌}
 use Rattle.calls.specs.declared.actions.Action.TheVariants.{Signal}
 use Rattle.calls.specs.declared.actions.Answer.TheVariants.{Signaled}
 use Rattle.board.specs.Board.{as_answer}
-use Rattle.worked.proofs.chained.sign.Goals as goal
+use Rattle.calling.proofs.chained.sign.Goals as goal
 
 pub returns : goal.returns
 returns g c =

@@ -1,5 +1,5 @@
 use Rattle.std.proofs.Common.{[]}
-use Rattle.worked.proofs.chained.in_two_orders.Goals as goal
+use Rattle.calling.proofs.chained.in_two_orders.Goals as goal
 
 -- each board begins an empty record
 pub returns : goal.returns

@@ -2,7 +2,7 @@ use Rattle.std.proofs.Common.{[], ◌∷◌, ◌++◌, zip, ◌∙◌, subst, ap
 use Rattle.phaser.specs.State.{new_state}
 use Rattle.phaser.specs.Histories.{Event}
 use Rattle.phaser.specs.Law.{LawOfTheRecord, RecordOf}
-use Rattle.worked.proofs.chained.work_on.Goals as goal
+use Rattle.calling.proofs.chained.work_on.Goals as goal
 
 -- each call and each list hands its record to the next
 pub returns : goal.returns
