@@ -9,6 +9,8 @@ ghost use Rattle.worked.specs.Examples.{WorkedExamples};
 mod accumulator_tests;
 #[cfg(test)]
 mod board_tests;
+#[cfg(test)]
+mod calling_tests;
 pub mod chained;
 #[cfg(test)]
 mod joining_tests;
