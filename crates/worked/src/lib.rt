@@ -9,6 +9,8 @@ mod accumulator_tests;
 #[cfg(test)]
 mod board_tests;
 #[cfg(test)]
+mod calling_tests;
+#[cfg(test)]
 mod joining_tests;
 #[cfg(test)]
 mod playlog_tests;

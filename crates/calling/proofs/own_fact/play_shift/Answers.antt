@@ -1,4 +1,4 @@
-use Rattle.std.proofs.Common.{[], zip}
+use Rattle.std.proofs.Common.{[], zip, ap}
 use Rattle.joining.specs.Lists.{joining_of}
 use Rattle.calls.specs.declared.Mode.TheVariants.{SignalWait}
 use Rattle.phaser.specs.Histories.{accepted_calls, call_step, values_for}
@@ -6,8 +6,8 @@ use Rattle.board.specs.Board.{WholeBoard, new_state_on}
 use Rattle.calling.proofs.OneTotal.{one_total, at_ok, both_at_ok}
 use Rattle.calling.proofs.Stepped.{played}
 use Rattle.calling.proofs.own_fact.play_shift.Goals as goal
-use Rattle.std.proofs.Common.{ap}
 
+-- the law that `play` promises, of the record that the making began
 pub returns : goal.returns
 returns g c =
     let J = g.A.Value.Joining in
