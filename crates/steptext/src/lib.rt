@@ -10,3 +10,4 @@ mod words;
 pub use expectations::Expected;
 pub use line::step_of;
 pub use lines::{BadLine, steps_of};
+pub use words::{mode, station};
