@@ -1,4 +1,4 @@
--- The words by which modes, calls and unknown codes are printed.
+-- The words by which modes, calls, answers and unknown codes are printed.
 use Rattle.std.specs.Prelude.{ℕ, List, [], ◌++◌, Some, Option, codes, decimal}
 use Rattle.std.specs.Option.{option_map}
 use Rattle.calls.specs.declared.Mode.{Mode}
@@ -8,6 +8,8 @@ use Rattle.calls.specs.declared.Verb.TheVariants.{Register, Signal, Wait, Drop, 
 use Rattle.calls.specs.declared.actions.Action.{Action}
 use Rattle.calls.specs.declared.actions.Action.TheVariants as action
 use Rattle.calls.specs.declared.actions.Call.{Call}
+use Rattle.calls.specs.declared.actions.Answer.{Answer}
+use Rattle.calls.specs.declared.actions.Answer.TheVariants.{Registered, Signaled, Observed, Dropped, Sent, Total, Viewed}
 use Rattle.calls.specs.declared.views.View.{View}
 use Rattle.calls.specs.declared.codes.UnknownCode.{UnknownCode}
 
@@ -61,3 +63,26 @@ sent_output output action.View = Some []
 
 abbrev pub call_output : {V : Type 0} → (V → Option (List ℕ)) → Call V → Option (List ℕ)
 call_output output c = option_map (λ t. call_text (λ _. t) c) (sent_output output c.action)
+
+-- ok and the answer's numbers, where text is that of the total
+abbrev pub answer_text : {V : Type 0} → (V → List ℕ) → Answer V → List ℕ
+answer_text text (Registered sp wp) = codes "ok " ++ (decimal sp ++ (codes " " ++ decimal wp))
+answer_text text (Signaled sp) = codes "ok " ++ decimal sp
+answer_text text (Observed wp) = codes "ok " ++ decimal wp
+answer_text text Dropped = codes "ok"
+answer_text text (Sent pass) = codes "ok " ++ decimal pass
+answer_text text (Total pass total) = codes "ok " ++ (decimal pass ++ (codes " " ++ text total))
+answer_text text (Viewed v) = codes "ok " ++ view_text v
+
+-- the text of the total that is answered, which may be unknown; what answers none needs none
+abbrev pub total_output : {V : Type 0} → (V → Option (List ℕ)) → Answer V → Option (List ℕ)
+total_output output (Registered sp wp) = Some []
+total_output output (Signaled sp) = Some []
+total_output output (Observed wp) = Some []
+total_output output Dropped = Some []
+total_output output (Sent pass) = Some []
+total_output output (Total pass total) = output total
+total_output output (Viewed v) = Some []
+
+abbrev pub answer_output : {V : Type 0} → (V → Option (List ℕ)) → Answer V → Option (List ℕ)
+answer_output output a = option_map (λ t. answer_text (λ _. t) a) (total_output output a)

@@ -1,7 +1,7 @@
 //! The seven calls and their answers as values.
 ghost use Rattle.std.specs.Prelude.{◌≡◌};
 ghost use Rattle.calls.specs.Calls.{verb_in, action_with, call_with, ForSent, ActionThrough};
-ghost use Rattle.calls.specs.Words.{call_output};
+ghost use Rattle.calls.specs.Words.{call_output, answer_output};
 
 use crate::{Mode, Verb, View};
 use std::fmt;
@@ -105,4 +105,20 @@ pub enum Answer<V> {
     /// The last pass observed, and its total.
     Total { pass: u32, total: V },
     Viewed { view: View },
+}
+
+impl<V: fmt::Display> fmt::Display for Answer<V> {
+    ghost output = { answer_output V.output };
+
+    fn fmt<W: fmt::Write>(&self, f: &mut fmt::Formatter<W>) -> fmt::Result {
+        match self {
+            Answer::Registered { sp, wp } => write!(f, "ok {sp} {wp}"),
+            Answer::Signaled { sp } => write!(f, "ok {sp}"),
+            Answer::Observed { wp } => write!(f, "ok {wp}"),
+            Answer::Dropped => f.write_str("ok"),
+            Answer::Sent { pass } => write!(f, "ok {pass}"),
+            Answer::Total { pass, total } => write!(f, "ok {pass} {total}"),
+            Answer::Viewed { view } => write!(f, "ok {view}"),
+        }
+    }
 }

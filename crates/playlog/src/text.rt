@@ -3,7 +3,6 @@ ghost use Rattle.std.specs.Prelude.{Some};
 ghost use Rattle.playlog.specs.Text.{outcome_text};
 
 use crate::outcomes::Outcome;
-use calls::Answer;
 use std::fmt;
 
 impl fmt::Display for Outcome {
@@ -18,13 +17,7 @@ impl fmt::Display for Outcome {
         } = *self;
         write!(f, "{number} {verb} {caller} ")?;
         match result {
-            Ok(Answer::Registered { sp, wp }) => write!(f, "ok {sp} {wp}"),
-            Ok(Answer::Signaled { sp }) => write!(f, "ok {sp}"),
-            Ok(Answer::Observed { wp }) => write!(f, "ok {wp}"),
-            Ok(Answer::Dropped) => f.write_str("ok"),
-            Ok(Answer::Sent { pass }) => write!(f, "ok {pass}"),
-            Ok(Answer::Total { pass, total }) => write!(f, "ok {pass} {total}"),
-            Ok(Answer::Viewed { view }) => write!(f, "ok {view}"),
+            Ok(answer) => write!(f, "{answer}"),
             Err(refusal) => write!(f, "no {}", refusal.number()),
         }
     }

@@ -1,4 +1,5 @@
 pub mod Refusals
 pub mod Rules
+pub mod Sentences
 pub mod Text
 pub mod Trace

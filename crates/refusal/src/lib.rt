@@ -6,7 +6,10 @@ ghost use Rattle.std.specs.Prelude.{◌≡◌, ◌≢◌, ℕ};
 ghost use Rattle.refusal.specs.Refusals.{number, layer, layer_of_number, place};
 
 pub mod limits;
+mod sentences;
 pub mod text;
+
+pub use sentences::Sentence;
 
 /// The part of the system that refuses.
 #[derive(Clone, Copy, Debug, PartialEq, Eq)]

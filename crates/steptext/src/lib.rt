@@ -16,3 +16,4 @@ pub use line::step_of;
 pub use lines::{BadLine, steps_of};
 pub use printed::{text_of, text_of_log};
 pub use streams::{MAX_STEPS, NoLog, log_of_lines, read_steps};
+pub use words::{mode, station};

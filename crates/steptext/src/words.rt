@@ -7,7 +7,7 @@ use crate::expectations::Expected;
 use calls::{Mode, Verb};
 
 /// A station's number.
-pub(crate) fn station(word: &str) -> Result<u8, Expected>
+pub fn station(word: &str) -> Result<u8, Expected>
     ensures { result ≡ word_number 8 Station word.now }
 {
     word.parse().map_err(|_| Expected::Station)
@@ -51,7 +51,7 @@ pub(crate) fn verb(word: &str) -> Option<Verb>
 }
 
 /// The mode that is printed so.
-pub(crate) fn mode(word: &str) -> Option<Mode>
+pub fn mode(word: &str) -> Option<Mode>
     ensures { result ≡ word_mode word.now }
 {
     match word {
