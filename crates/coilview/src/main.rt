@@ -9,12 +9,36 @@ ghost use Rattle.refusal.specs.Rules.{verdict};
 ghost use Rattle.shiftlog.specs.Log.{log_rules};
 ghost use Rattle.coilpicture.specs.Drawn.{log_drawn};
 
-use anyhow::bail;
+use clap::{Arg, ArgAction, Command};
 use coilpicture::{Form, draw_log};
+use commandline::{asked, words};
 use shiftlog::{Log, read_log, write_bytes};
-use std::alloc::Global;
-use std::env;
+use std::alloc::{AllocError, Global};
 use std::io::{Read, Write};
+
+const ABOUT: &str = "\
+Reads a log from standard input and prints a picture of its coil: a row for each station along the
+passes.";
+
+const DETAILS: &str = "\
+Status: 0 where the picture was printed, 1 where the log is refused, of which standard error tells,
+or where reading or writing failed.
+
+Example:
+  coilview < coil.log
+  coilview --svg < coil.log > coil.svg";
+
+/// The program with its option.
+fn command<'a>(heap: Global) -> Result<Command<'a>, AllocError> {
+    let svg = Arg::new(heap, "svg")
+        .long("svg")
+        .action(ArgAction::SetTrue)
+        .help("An SVG file, which a browser shows, in place of text");
+    Command::new(heap, "coilview")
+        .about(ABOUT)
+        .after_help(DETAILS)
+        .arg(svg)
+}
 
 /// Writes the picture of the log that the reader gives, and nothing else; nothing at all where the
 /// log is refused.
@@ -37,12 +61,14 @@ fn run<R: Read + Drop, W: Write>(
 }
 
 fn main(rt: HostRuntime) -> anyhow::Result<()> {
-    let mut form = Form::Text;
-    for word in env::args(&rt)?.skip(1) {
-        match word.as_str() {
-            "--svg" => form = Form::Svg,
-            _ => bail!("usage: coilview [--svg] < LOG"),
-        }
-    }
+    let words = words(&rt)?;
+    let Some(matches) = asked(&rt, command(rt.alloc())?, words.as_slice())? else {
+        return Ok(());
+    };
+    let form = if matches.get_flag("svg") {
+        Form::Svg
+    } else {
+        Form::Text
+    };
     run(rt.alloc(), form, rt.stdin(), &mut rt.stdout())
 }

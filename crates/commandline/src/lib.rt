@@ -46,6 +46,21 @@ pub fn asked<'a>(
     }
 }
 
+/// Whether a program without options is to do its work: its help or its version may be asked for in
+/// place of it, and is then printed.
+pub fn is_to_work(
+    rt: &(impl Env + Print + AllocGlobal),
+    name: &str,
+    about: &str,
+    details: &str,
+) -> anyhow::Result<bool> {
+    let words = words(rt)?;
+    let command = Command::new(rt.alloc(), name)
+        .about(about)
+        .after_help(details);
+    Ok(asked(rt, command, words.as_slice())?.is_some())
+}
+
 /// What is wrong: the first paragraph of clap's message, without its first word.
 fn mistake(message: &str) -> &str {
     let (first, _) = message.split_once("\n\n").unwrap_or((message, ""));

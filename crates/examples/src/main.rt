@@ -6,6 +6,7 @@
 use accumulator::Eager;
 use board::{Board, play};
 use calls::Mode;
+use commandline::is_to_work;
 use joining::CoilRecord;
 use playlog::{calls_of, lines, outcomes_of, report};
 use shiftlog::{Log, read_log};
@@ -98,6 +99,15 @@ fn show_limits(rt: &HostRuntime) -> anyhow::Result<()> {
     Ok(())
 }
 
+const ABOUT: &str = "\
+Prints the reports of the example logs, which lie in the folder that it runs in.";
+
+const DETAILS: &str = "\
+Status: 0, or 1 where a log could not be read or the text not be written.
+
+Example:
+  cd crates/examples/data && ../out/examples";
+
 fn run(rt: &HostRuntime) -> anyhow::Result<()> {
     for name in NAMES {
         show(rt, name)?;
@@ -107,5 +117,8 @@ fn run(rt: &HostRuntime) -> anyhow::Result<()> {
 }
 
 fn main(rt: HostRuntime) -> anyhow::Result<()> {
-    run(&rt)
+    if is_to_work(&rt, "examples", ABOUT, DETAILS)? {
+        run(&rt)?;
+    }
+    Ok(())
 }

@@ -9,6 +9,7 @@ ghost use Rattle.hall.specs.Hands.{IsTruthful, OnlyActs, InHand, CrewInHand};
 
 use accumulator::Eager;
 use calls::{Answer, Mode, Verb};
+use commandline::is_to_work;
 use joining::CoilRecord;
 use playlog::Outcome;
 use refusal::Refusal;
@@ -132,9 +133,27 @@ impl Coil {
     }
 }
 
+const ABOUT: &str = "\
+Takes one coil of three stations through two passes by tickets alone.";
+
+const DETAILS: &str = "\
+It reads nothing, and prints what each call is answered.
+
+Status: 0, or 1 where writing or memory failed.
+
+Example:
+  hall";
+
+fn main(rt: HostRuntime) -> anyhow::Result<()> {
+    if is_to_work(&rt, "hall", ABOUT, DETAILS)? {
+        work(&rt)?;
+    }
+    Ok(())
+}
+
 /// Station 0, a gauge, brings in 1, another one, and 2, a reel that only waits. Two passes, and
 /// all leave.
-fn main(rt: HostRuntime) -> anyhow::Result<()> {
+fn work(rt: &HostRuntime) -> anyhow::Result<()> {
     let (board, first) = TicketBoard::new(0, Mode::SignalWait, Eager::new(STATIONS as usize));
     let mut coil = Coil {
         board,

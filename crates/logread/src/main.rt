@@ -11,10 +11,23 @@ ghost use Rattle.shiftlog.specs.Log.{log_rules};
 ghost use Rattle.steptext.specs.Printed.{log_text};
 ghost use Rattle.steptext.specs.Said.{log_said};
 
+use commandline::is_to_work;
 use shiftlog::{Log, read_log, write_bytes};
 use std::alloc::Global;
 use std::io::{Read, Write};
 use steptext::text_of_log;
+
+const ABOUT: &str = "\
+Reads a log from standard input and writes its steps to standard output, one to a line.";
+
+const DETAILS: &str = "\
+The lines are those that logwrite takes: logread | logwrite gives the same log.
+
+Status: 0 where the lines were written, 1 where the log is refused, of which standard error tells,
+or where reading or writing failed.
+
+Example:
+  logread < coil.log";
 
 /// Writes the lines of a log's steps, and nothing else. Read again they say the log. Bytes that are
 /// no accepted log are refused: nothing is written, and the refusal is the error's message.
@@ -46,5 +59,8 @@ fn run<R: Read + Drop, W: Write>(heap: Global, reader: R, writer: &mut W) -> any
 }
 
 fn main(rt: HostRuntime) -> anyhow::Result<()> {
-    run(rt.alloc(), rt.stdin(), &mut rt.stdout())
+    if is_to_work(&rt, "logread", ABOUT, DETAILS)? {
+        run(rt.alloc(), rt.stdin(), &mut rt.stdout())?;
+    }
+    Ok(())
 }

@@ -7,10 +7,31 @@ ghost use Rattle.std.specs.Io.KnownBytes.{Appends, Keeps};
 ghost use Rattle.steptext.specs.FromReader.{log_read};
 ghost use Rattle.steptext.specs.Said.{log_said};
 
+use commandline::is_to_work;
 use shiftlog::write_bytes;
 use std::alloc::Global;
 use std::io::{BufReader, Read, Write};
 use steptext::log_of_lines;
+
+const ABOUT: &str = "\
+Reads steps from standard input, one to a line, and writes their log to standard output.";
+
+const DETAILS: &str = "\
+Lines:
+  register STATION NEWCOMER MODE          MODE is SW, SO or WO
+  signal STATION
+  wait STATION
+  drop STATION
+  send STATION LENGTH DEVIATION MARKS
+  result STATION
+  view STATION
+Blank lines and lines that begin with # are skipped. A log has at most 3968 steps.
+
+Status: 0 where the log was written, 1 where a line is wrong or there are too many steps, of which
+standard error tells, or where reading or writing failed. Then nothing is written.
+
+Example:
+  printf 'signal 0\nwait 0\n' | logwrite > coil.log";
 
 /// Writes the log that the reader's text says, and nothing else; where the text says none, nothing
 /// at all.
@@ -30,5 +51,8 @@ fn run<R: Read + Drop, W: Write>(heap: Global, reader: R, writer: &mut W) -> any
 }
 
 fn main(rt: HostRuntime) -> anyhow::Result<()> {
-    run(rt.alloc(), rt.stdin(), &mut rt.stdout())
+    if is_to_work(&rt, "logwrite", ABOUT, DETAILS)? {
+        run(rt.alloc(), rt.stdin(), &mut rt.stdout())?;
+    }
+    Ok(())
 }
