@@ -1,5 +1,5 @@
-//! The pass board: a phaser with an accumulator, its seven calls, whom a waiter waits for, and lists
-//! of calls played.
+//! The pass board: a phaser with an accumulator, its seven calls, whom a waiter waits for, and
+//! lists of calls played.
 
 #![tactic(auto)]
 

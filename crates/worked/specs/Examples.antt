@@ -1,5 +1,5 @@
 -- Worked examples over all layers.
-use Rattle.std.specs.Prelude.{◌≡◌, ℕ, pos, Bool, map, true, false, List, [], ◌∷◌, ◌++◌, replicate, take, Some, None, Option, Ok, Err}
+use Rattle.std.specs.Prelude.{◌≡◌, ℕ, pos, Bool, map, List, [], ◌∷◌, ◌++◌, replicate, take, Some, None, Option, Ok, Err}
 use Rattle.refusal.specs.declared.Layer.{Layer}
 use Rattle.refusal.specs.declared.Layer.TheVariants as layers
 use Rattle.refusal.specs.declared.Refusal.{Refusal}
