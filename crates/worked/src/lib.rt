@@ -15,7 +15,7 @@ mod joining_tests;
 #[cfg(test)]
 mod playlog_tests;
 #[cfg(test)]
-mod printed_tests;
+mod refusal_tests;
 #[cfg(test)]
 mod shiftlog_tests;
 #[cfg(test)]

@@ -1,9 +1,8 @@
-//! Lines that say a step, lines that say none, and what is printed of texts that say no log.
+//! Lines that say a step, and what is printed of lines that say none.
 use calls::{Action, Call, Mode};
 use std::alloc::Global;
 use std::test::Fail;
-use steptext::{read_steps, step_of, steps_of};
-use textlines::{Line, read_line, skip_line};
+use steptext::{step_of, steps_of};
 
 #[test]
 fn a_register_is_read(rt: HostRuntime) -> Result<(), Fail> {
@@ -53,50 +52,5 @@ fn the_first_wrong_line_is_told(rt: HostRuntime) -> Result<(), Fail> {
     assert!(rt; good.is_ok_and(|steps| steps.len() == 2));
     let lines = ["view 1", " ", "register 0 1 S", "x"];
     assert!(rt; steps_of(heap, &lines)?.is_err_and(|bad| bad.number == 3));
-    Ok(())
-}
-
-/// What is printed of a text that says no log, or nothing.
-fn refused(heap: Global, text: &[u8]) -> Result<String, Fail> {
-    let mut reader = text;
-    match read_steps(heap, &mut reader)? {
-        Ok(_) => Ok(String::new(heap)),
-        Err(no) => Ok(no.to_string(heap)?),
-    }
-}
-
-#[test]
-fn a_text_is_read_up_to_its_first_wrong_line(rt: HostRuntime) -> Result<(), Fail> {
-    let none = refused(rt.alloc(), b"# \xff\r\n\r\n\t \nview 1\r\nsignal 0")?;
-    assert_eq!(rt; none.as_str(), "");
-    let word = refused(rt.alloc(), b"view 1\r\n\nregister 0 1 S\r\nx\n")?;
-    assert_eq!(rt; word.as_str(), "line 3: expected SW, SO or WO, found \"S\"");
-    let bytes = refused(rt.alloc(), b"view 1\nview \xff\n")?;
-    assert_eq!(rt;
-        bytes.as_str(),
-        "line 2: expected text in UTF-8, found other bytes"
-    );
-    let long = refused(rt.alloc(), &[b'#'; 256])?;
-    assert_eq!(rt;
-        long.as_str(),
-        "line 1: expected a line of at most 255 bytes, found a longer one"
-    );
-    Ok(())
-}
-
-#[test]
-fn a_line_may_be_skipped(rt: HostRuntime) -> Result<(), Fail> {
-    let mut text = [b'x'; 300];
-    text[255] = b'\r';
-    text[256] = b'\n';
-    text[297] = b'\n';
-    let mut reader: &[u8] = &text;
-    let mut line = Vec::new(rt.alloc());
-    assert_eq!(rt; read_line(&mut reader, &mut line)?, Line::Whole);
-    assert_eq!(rt; line.len(), 255);
-    skip_line(&mut reader)?;
-    assert_eq!(rt; read_line(&mut reader, &mut line)?, Line::Whole);
-    assert_eq!(rt; line.as_slice(), b"xx".as_slice());
-    assert_eq!(rt; read_line(&mut reader, &mut line)?, Line::Ended);
     Ok(())
 }
