@@ -9,12 +9,28 @@ ghost use Rattle.refusal.specs.Rules.{verdict};
 ghost use Rattle.shiftlog.specs.Log.{log_rules};
 ghost use Rattle.coilpicture.specs.Drawn.{log_drawn};
 
-use anyhow::bail;
+use clap::{Arg, ArgAction, Command};
 use coilpicture::{Form, draw_log};
+use commandline::{asked, words};
 use shiftlog::{Log, read_log, write_bytes};
 use std::alloc::Global;
-use std::env;
 use std::io::{Read, Write};
+
+const ABOUT: &str = "\
+Reads a log from standard input and prints a picture of its coil.";
+
+const DETAILS: &str = "\
+A row is a station that took part, a column a pass. A cell shows what the station did at the pass:
+  > enters   1 2 .. sends   # signs   = observes   < leaves   ! is refused
+Below a pass stands its total, or - where no station in mode SW has observed it. Then who waits for
+whom at the end, and each refused step: its record, the step, the refusal and its place.
+
+Status: 0 where the picture is printed; 1 where the log is refused, which prints no picture, or could
+not be read or written.
+
+Examples:
+  coilview < coil.log
+  coilview --svg < coil.log > coil.svg";
 
 /// Writes the picture of the log that the reader gives, and nothing else; nothing at all where the
 /// log is refused.
@@ -37,12 +53,22 @@ fn run<R: Read + Drop, W: Write>(
 }
 
 fn main(rt: HostRuntime) -> anyhow::Result<()> {
-    let mut form = Form::Text;
-    for word in env::args(&rt)?.skip(1) {
-        match word.as_str() {
-            "--svg" => form = Form::Svg,
-            _ => bail!("usage: coilview [--svg] < LOG"),
-        }
-    }
+    let words = words(&rt)?;
+    let svg = Arg::new(rt.alloc(), "svg")
+        .long("svg")
+        .action(ArgAction::SetTrue)
+        .help("Print one SVG file in place of text");
+    let command = Command::new(rt.alloc(), "coilview")
+        .about(ABOUT)
+        .after_help(DETAILS)
+        .arg(svg)?;
+    let Some(matches) = asked(&rt, command, words.as_slice())? else {
+        return Ok(());
+    };
+    let form = if matches.get_flag("svg") {
+        Form::Svg
+    } else {
+        Form::Text
+    };
     run(rt.alloc(), form, rt.stdin(), &mut rt.stdout())
 }

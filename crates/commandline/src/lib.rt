@@ -1,0 +1,53 @@
+//! What all programs share of their command line: help, the version, and the message for a wrong
+//! one.
+
+#![tactic(auto)]
+
+ghost use Rattle.std.specs.Prelude.{◌≡◌, true, map, string_bytes, IsSome, IfOk, IfSome};
+ghost use Rattle.clap.specs.Words.{app_of, takes, HasMatchesOf};
+ghost use Rattle.commandline.specs.Versions.{versioned};
+
+use anyhow::bail;
+use clap::{ArgMatches, Command};
+use std::env;
+use std::rt::Env;
+
+/// The version of every program.
+pub const VERSION: &str = "0.1.0";
+
+/// The words of the command line, of which the first is the program's name.
+pub fn words(rt: &(impl Env + AllocGlobal)) -> anyhow::Result<Vec<String>> {
+    Ok(env::args(rt)?.collect(rt.alloc())?)
+}
+
+/// What the words ask of the command, to which the version is added. None where they ask for its
+/// help or its version, which is then printed. Words that are wrong are an error, whose message
+/// says what is wrong with them.
+pub fn asked<'a>(
+    rt: &(impl Print + AllocGlobal),
+    command: Command<'a>,
+    words: &'a [String],
+) -> anyhow::Result<Option<ArgMatches<'a>>>
+    ensures matches { IfOk result (λ asked. IfSome asked
+        (HasMatchesOf (versioned (app_of command.entry)) (map string_bytes words.entry.now))) }
+    ensures right { takes (versioned (app_of command.entry)) (map string_bytes words.entry.now) ≡ true →
+        IfOk result IsSome }
+{
+    match command.version(VERSION).try_get_matches_from(words) {
+        Ok(matches) => Ok(Some(matches)),
+        Err(other) => {
+            if other.use_stderr() {
+                let text = other.to_string(rt.alloc())?;
+                bail!("{}", mistake(text.as_str()));
+            }
+            rt.print(other)?;
+            Ok(None)
+        }
+    }
+}
+
+/// What is wrong: the first paragraph of clap's message, without its first word.
+fn mistake(message: &str) -> &str {
+    let (first, _) = message.split_once("\n\n").unwrap_or((message, ""));
+    first.strip_prefix("error: ").unwrap_or(first)
+}
