@@ -1,5 +1,5 @@
 -- Each total that stands at a pass was seen for that pass.
-use Rattle.std.proofs.Common.{◌≡◌, ℕ, ◌+◌, List, [], ◌∷◌, Bool, true, false, cond, map, Some, None, Option, IfSome, eqb, refl, subst, sym}
+use Rattle.std.proofs.Common.{◌≡◌, ℕ, ◌+◌, List, [], ◌∷◌, Bool, true, false, cond, map, Some, None, Option, IfSome, eqb, refl, subst}
 use Rattle.std.specs.List.{AllByRecursion, find, cons_option}
 use Rattle.std.specs.Option.{option_map}
 use Rattle.std.proofs.lemmas.Bool.{eqb-true}

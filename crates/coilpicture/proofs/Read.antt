@@ -1,5 +1,5 @@
 -- The reading of a step is that of what the step says.
-use Rattle.std.proofs.Common.{◌≡◌, List, map, Bor, refl, ap, ℕ}
+use Rattle.std.proofs.Common.{◌≡◌, List, Bor, refl, ℕ}
 use Rattle.calls.specs.Calls.{action_with, call_with}
 use Rattle.calls.specs.declared.actions.Action.{Action}
 use Rattle.calls.specs.declared.actions.Action.TheVariants.{Register, Signal, Wait, Drop, Send, Result, View}

@@ -1,5 +1,5 @@
 -- What the answers of view and result tell.
-use Rattle.std.proofs.Common.{◌≡◌, ℕ, Option, Ok, Err, Result, ap}
+use Rattle.std.proofs.Common.{◌≡◌, ℕ, Ok, Err, Result, ap}
 use Rattle.std.specs.Result.{result_ok}
 use Rattle.refusal.specs.declared.Refusal.{Refusal}
 use Rattle.calls.specs.declared.views.View.{View}

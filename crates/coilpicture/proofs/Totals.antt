@@ -1,12 +1,9 @@
 -- Every total that is seen is complete: to ask for it is a call more, which the law of the record covers.
-use Rattle.std.proofs.Common.{◌≡◌, ℕ, List, [], ◌∷◌, ◌++◌, true, false, Bool, cond, map, Some, None, Option, IfSome, Ok, Err, Result, refl, ap, ◌∙◌, subst, sym, lit<, eqb, nat_eq}
-use Rattle.std.specs.List.{AllByRecursion, find, filter_map}
-use Rattle.std.proofs.lemmas.Bool.{eqb-true}
+use Rattle.std.proofs.Common.{◌≡◌, ℕ, List, [], ◌∷◌, ◌++◌, IfSome, Ok, Err, Result, refl, ap, ◌∙◌, subst, lit<}
 use Rattle.refusal.specs.declared.Refusal.{Refusal}
 use Rattle.refusal.specs.declared.limits.TheConstants.{STATIONS}
 use Rattle.refusal.specs.Rules.{Verdict, verdict}
 use Rattle.joining.specs.declared.Joining.{Ghosts}
-use Rattle.joining.specs.declared.kinds.CoilRecord.{CoilRecord}
 use Rattle.joining.specs.Laws.{CommutativeMonoid}
 use Rattle.joining.specs.Lists.{joining_of}
 use Rattle.calls.specs.declared.Mode.TheVariants.{SignalWait}
@@ -21,7 +18,6 @@ use Rattle.phaser.specs.Histories.{call_step, history, accepted_calls, value_for
 use Rattle.phaser.proofs.Law.{list_lawful}
 use Rattle.refusal.specs.Trace.{trace}
 use Rattle.playlog.specs.Plays.{new_board}
-use Rattle.coilpicture.specs.declared.watching.Seen.{Seen}
 use Rattle.coilpicture.specs.Watched.{total_told, total_after, seen_step, seen_on, EachTotalSeen, IsComplete}
 
 module _ {V : Type 0} (J : Ghosts V) where

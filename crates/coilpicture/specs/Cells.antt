@@ -1,10 +1,9 @@
 -- What stands in a cell, in a row and at a column of the picture.
-use Rattle.std.specs.Prelude.{ℕ, ◌+◌, Bool, true, false, List, map, max, fold, filter, count_by, find, ◌==◌, Some, None, Option, filter_map}
+use Rattle.std.specs.Prelude.{ℕ, ◌+◌, Bool, true, false, List, map, max, fold, filter, count_by, ◌==◌, Some, None, Option, filter_map}
 use Rattle.std.specs.List.{list_any}
 use Rattle.std.specs.Option.{option_map}
 use Rattle.refusal.specs.declared.limits.TheConstants.{STATIONS}
 use Rattle.calls.specs.declared.Mode.{Mode}
-use Rattle.coilpicture.specs.declared.watching.Seen.{Seen}
 use Rattle.coilpicture.specs.declared.deeds.Deed.{Deed}
 use Rattle.coilpicture.specs.declared.deeds.DeedKind.{DeedKind}
 use Rattle.coilpicture.specs.declared.deeds.DeedKind.TheVariants.{Entered, Sent, Signed, Observed, Left, Refused}

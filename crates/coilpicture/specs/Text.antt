@@ -1,5 +1,5 @@
 -- The picture as text.
-use Rattle.std.specs.Prelude.{ℕ, ◌+◌, ◌-◌, ◌*◌, ◌/◌, ◌%◌, ◌^◌, ℤ, Bool, true, false, cond, ◌&&◌, List, ◌++◌, length, take, drop, filter, flat_map, ◌==◌, Some, None, Option, codes, decimal}
+use Rattle.std.specs.Prelude.{ℕ, ◌+◌, ◌-◌, ◌*◌, ◌/◌, ◌%◌, ◌^◌, ℤ, Bool, true, false, cond, List, ◌++◌, length, take, drop, flat_map, ◌==◌, Some, None, Option, codes, decimal}
 use Rattle.std.specs.Fmt.{format_spec, styled_decimal, styled_signed_decimal}
 use Rattle.refusal.specs.Text.{number_and_place}
 use Rattle.refusal.specs.declared.limits.TheConstants.{STATIONS}

@@ -13,32 +13,24 @@ use clap::{Arg, ArgAction, Command};
 use coilpicture::{Form, draw_log};
 use commandline::{asked, words};
 use shiftlog::{Log, read_log, write_bytes};
-use std::alloc::{AllocError, Global};
+use std::alloc::Global;
 use std::io::{Read, Write};
 
 const ABOUT: &str = "\
-Reads a log from standard input and prints a picture of its coil: a row for each station along the
-passes.";
+Reads a log from standard input and prints a picture of its coil.";
 
 const DETAILS: &str = "\
-Status: 0 where the picture was printed, 1 where the log is refused, of which standard error tells,
-or where reading or writing failed.
+A row is a station that took part, a column a pass. A cell shows what the station did at the pass:
+  > enters   1 2 .. sends   # signs   = observes   < leaves   ! is refused
+Below a pass stands its total, or - where no station in mode SW has observed it. Then who waits for
+whom at the end, and each refused step: its record, the step, the refusal and its place.
 
-Example:
+Status: 0 where the picture is printed; 1 where the log is refused, which prints no picture, or could
+not be read or written.
+
+Examples:
   coilview < coil.log
   coilview --svg < coil.log > coil.svg";
-
-/// The program with its option.
-fn command<'a>(heap: Global) -> Result<Command<'a>, AllocError> {
-    let svg = Arg::new(heap, "svg")
-        .long("svg")
-        .action(ArgAction::SetTrue)
-        .help("An SVG file, which a browser shows, in place of text");
-    Command::new(heap, "coilview")
-        .about(ABOUT)
-        .after_help(DETAILS)
-        .arg(svg)
-}
 
 /// Writes the picture of the log that the reader gives, and nothing else; nothing at all where the
 /// log is refused.
@@ -62,7 +54,15 @@ fn run<R: Read + Drop, W: Write>(
 
 fn main(rt: HostRuntime) -> anyhow::Result<()> {
     let words = words(&rt)?;
-    let Some(matches) = asked(&rt, command(rt.alloc())?, words.as_slice())? else {
+    let svg = Arg::new(rt.alloc(), "svg")
+        .long("svg")
+        .action(ArgAction::SetTrue)
+        .help("Print one SVG file in place of text");
+    let command = Command::new(rt.alloc(), "coilview")
+        .about(ABOUT)
+        .after_help(DETAILS)
+        .arg(svg)?;
+    let Some(matches) = asked(&rt, command, words.as_slice())? else {
         return Ok(());
     };
     let form = if matches.get_flag("svg") {

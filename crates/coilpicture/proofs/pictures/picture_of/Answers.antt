@@ -1,9 +1,8 @@
-use Rattle.std.proofs.Common.{◌≡◌, ℕ, List, map, vec_items, ap, ap₂, ◌∙◌, sym, subst}
+use Rattle.std.proofs.Common.{◌≡◌, ℕ, List, map, ap, ap₂, ◌∙◌, sym, subst}
 use Rattle.joining.specs.declared.kinds.CoilRecord.{CoilRecord}
 use Rattle.calls.specs.declared.actions.Call.{Call}
 use Rattle.playlog.specs.Plays.{coil_records}
 use Rattle.coilpicture.specs.declared.watching.Seen.{Seen}
-use Rattle.coilpicture.specs.declared.columns.Column.{Column}
 use Rattle.coilpicture.specs.Watched.{seen_on, waiting_after, EachTotalSeen, IsComplete}
 use Rattle.coilpicture.specs.Deeds.{deeds_of}
 use Rattle.coilpicture.specs.Cells.{last_pass, rows_of}
