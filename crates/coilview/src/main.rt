@@ -3,7 +3,7 @@
 
 #![tactic(auto)]
 
-ghost use Rattle.std.specs.Prelude.{◌≡◌, true, is_err, IfSome, OnOk};
+ghost use Rattle.std.specs.Prelude.{◌≡◌, true, is_err, IfOk, IfSome, OnOk, Ok};
 ghost use Rattle.std.specs.Io.KnownBytes.{Appends, Keeps};
 ghost use Rattle.refusal.specs.Rules.{verdict};
 ghost use Rattle.shiftlog.specs.Log.{log_rules};
@@ -11,7 +11,7 @@ ghost use Rattle.coilpicture.specs.Drawn.{log_drawn};
 
 use clap::{Arg, ArgAction, Command};
 use coilpicture::{Form, draw_log};
-use commandline::{asked, words};
+use commandline::{asked, in_words, words};
 use shiftlog::{Log, read_log, write_bytes};
 use std::alloc::Global;
 use std::io::{Read, Write};
@@ -32,6 +32,16 @@ Examples:
   coilview < coil.log
   coilview --svg < coil.log > coil.svg";
 
+/// The log that the bytes are, or their refusal in words.
+fn checked(bytes: &[u8]) -> anyhow::Result<Log<'_>>
+    ensures answer { IfOk result (λ log. (verdict (log_rules bytes.now) ≡ Ok tt) × (log ≡ bytes.now)) }
+{
+    match Log::check(bytes) {
+        Ok(log) => Ok(log),
+        Err(refusal) => Err(in_words(refusal)),
+    }
+}
+
 /// Writes the picture of the log that the reader gives, and nothing else; nothing at all where the
 /// log is refused.
 fn run<R: Read + Drop, W: Write>(
@@ -46,7 +56,7 @@ fn run<R: Read + Drop, W: Write>(
         is_err (verdict (log_rules log)) ≡ true → Keeps (W.contents writer.old) (W.contents writer.new)) }
 {
     let bytes = read_log(heap, reader)?;
-    let log = Log::check(bytes.as_slice())?;
+    let log = checked(bytes.as_slice())?;
     let text = draw_log(heap, form, &log)?;
     write_bytes(writer, text.as_bytes())?;
     Ok(())

@@ -1,14 +1,17 @@
-//! What all programs share of their command line: help, the version, and the message for a wrong
-//! one.
+//! What all programs share: help, the version, the message for a wrong command line, and that for a
+//! refusal.
 
 #![tactic(auto)]
 
-ghost use Rattle.std.specs.Prelude.{◌≡◌, true, map, string_bytes, IsSome, IfOk, IfSome};
+ghost use Rattle.std.specs.Prelude.{◌≡◌, true, map, string_bytes, IsSome, IfOk, IfSome, Some};
+ghost use Rattle.anyhow.specs.Error.{HasMessage};
+ghost use Rattle.refusal.specs.Sentences.{told_text};
 ghost use Rattle.clap.specs.Words.{app_of, takes, HasMatchesOf};
 ghost use Rattle.commandline.specs.Versions.{versioned};
 
-use anyhow::bail;
+use anyhow::{anyhow, bail};
 use clap::{ArgMatches, Command};
+use refusal::Refusal;
 use std::env;
 use std::rt::Env;
 
@@ -59,6 +62,14 @@ pub fn is_to_work(
         .about(about)
         .after_help(details);
     Ok(asked(rt, command, words.as_slice())?.is_some())
+}
+
+/// A refusal as a program's error: its number and place, and what it says.
+pub fn in_words(refusal: Refusal) -> anyhow::Error
+    ensures { HasMessage (Some (told_text refusal)) result }
+{
+    let sentence = refusal.sentence();
+    anyhow!("{refusal}: {sentence}")
 }
 
 /// What is wrong: the first paragraph of clap's message, without its first word.

@@ -6,12 +6,12 @@ ghost use Rattle.std.specs.Prelude.{◌≡◌, IfErr, IfSome, IsErr, IsErrAnd, O
 ghost use Rattle.std.specs.Io.KnownBytes.{Appends, Keeps};
 ghost use Rattle.anyhow.specs.Error.{HasMessage};
 ghost use Rattle.refusal.specs.Rules.{verdict};
-ghost use Rattle.refusal.specs.Text.{number_and_place};
+ghost use Rattle.refusal.specs.Sentences.{told_text};
 ghost use Rattle.shiftlog.specs.Log.{log_rules};
 ghost use Rattle.steptext.specs.Printed.{log_text};
 ghost use Rattle.steptext.specs.Said.{log_said};
 
-use commandline::is_to_work;
+use commandline::{in_words, is_to_work};
 use shiftlog::{Log, read_log, write_bytes};
 use std::alloc::Global;
 use std::io::{Read, Write};
@@ -30,15 +30,15 @@ Example:
   logread < coil.log";
 
 /// Writes the lines of a log's steps, and nothing else. Read again they say the log. Bytes that are
-/// no accepted log are refused: nothing is written, and the refusal is the error's message.
+/// no accepted log are refused: nothing is written, and the error tells the refusal in words.
 fn write_lines<W: Write>(heap: Global, bytes: &[u8], writer: &mut W) -> anyhow::Result<()>
     ensures accepted { OnOk result (verdict (log_rules bytes.now) ≡ Ok tt) }
     ensures written { OnOk result (Appends (W.contents writer.old) (W.contents writer.new) (log_text bytes.now)) }
     ensures said { OnOk result (log_said (log_text bytes.now) ≡ Some bytes.now) }
     ensures kept { IsErr (verdict (log_rules bytes.now)) → Keeps (W.contents writer.old) (W.contents writer.new) }
-    ensures told { IfErr (verdict (log_rules bytes.now)) (λ refusal. IsErrAnd result (HasMessage (Some (number_and_place refusal)))) }
+    ensures told { IfErr (verdict (log_rules bytes.now)) (λ refusal. IsErrAnd result (HasMessage (Some (told_text refusal)))) }
 {
-    let log = Log::check(bytes)?;
+    let log = Log::check(bytes).map_err(|refusal| in_words(refusal))?;
     let text = text_of_log(heap, &log)?;
     write_bytes(writer, text.as_bytes())?;
     Ok(())

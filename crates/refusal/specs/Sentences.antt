@@ -3,6 +3,7 @@ use Rattle.std.specs.Prelude.{ℕ, List, ◌++◌, codes, decimal}
 use Rattle.refusal.specs.declared.Refusal.{Refusal}
 use Rattle.refusal.specs.declared.Refusal.TheVariants.{Limit, TooFewCells, LogSize, BlockCheck, BlockNumber, BlockCount, NotZero, BadRecord, NoStation, NotMember, AlreadyMember, ModeDenied, OutOfTurn, PastLastPass, LastPassKept, NotSigned, NothingObserved, NoCell, NotKept}
 use Rattle.refusal.specs.declared.limits.TheConstants.{STATIONS, LAST_PASS}
+use Rattle.refusal.specs.Text.{number_and_place}
 
 -- a number between words
 abbrev pub around : List ℕ → ℕ → List ℕ → List ℕ
@@ -28,3 +29,7 @@ sentence_text (NotSigned caller) = around (codes "not every signaler has signed 
 sentence_text (NothingObserved caller) = around (codes "station ") caller (codes " has observed no pass yet: it has to wait first")
 sentence_text (NoCell station) = around (codes "station ") station (codes " cannot send: only the stations below the limit have cells")
 sentence_text (NotKept pass) = around (codes "the total of pass ") pass (codes " is not kept")
+
+-- its number and place, and what it says
+abbrev pub told_text : Refusal → List ℕ
+told_text refusal = number_and_place refusal ++ (codes ": " ++ sentence_text refusal)
