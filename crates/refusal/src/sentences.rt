@@ -32,7 +32,9 @@ impl fmt::Display for Sentence {
                 "{cells} cells are too few: each station below the limit needs one for each kept pass"
             ),
             Refusal::LogSize => {
-                f.write_str("the log is too long, or it is not whole blocks, or its steps have no room")
+                f.write_str(
+                    "the log is too long, or it is not whole blocks, or its steps have no room",
+                )
             }
             Refusal::BlockCheck { block } => write!(
                 f,
