@@ -1,5 +1,5 @@
 -- What the next line of a text comes to, where it is read whole.
-use Rattle.std.proofs.Common.{◌≡◌, ℕ, ◌≤◌, Bool, true, false, cond, leb, List, [], ◌∷◌, length, take, Some, None, Option, IfSome, refl, sym, ap, ◌∙◌, subst, take_all}
+use Rattle.std.proofs.Common.{◌≡◌, ℕ, Bool, true, false, cond, List, [], ◌∷◌, length, take, Some, None, Option, IfSome, refl, sym, ap, ◌∙◌, subst, take_all}
 use Rattle.std.specs.Io.BufRead.{drop_through, first_line}
 use Rattle.std.proofs.lemmas.Bool.{leb-true}
 use Rattle.textlines.specs.declared.TheConstants.{MAX_LINE_LEN}

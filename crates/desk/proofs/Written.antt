@@ -9,7 +9,6 @@ use Rattle.shiftlog.specs.declared.readings.Reading.{Reading}
 use Rattle.accumulator.specs.LentCells.{CellChanges}
 use Rattle.textlines.proofs.FirstLine.{lines-first}
 use Rattle.desk.specs.declared.hearing.Heard.{Heard}
-use Rattle.desk.specs.declared.hearing.Heard.TheVariants.{Nothing}
 use Rattle.desk.specs.Heard.{heard_in, next_heard}
 use Rattle.desk.specs.Sittings.{Sitting, heard_step, written}
 

@@ -19,7 +19,7 @@ module _ {V : Type 0} (J : Ghosts V) (changes : CellChanges V) (part_of : Readin
   -- what is written for what a line comes to, and the sitting after it
   abbrev pub heard_step : Sitting V → Heard → List ℕ × Sitting V
   heard_step s Nothing = ([], s)
-  heard_step s (Wrong wrong) = ([], s)
+  heard_step s (Wrong mismatch) = ([], s)
   heard_step s (Asked request) =
       let r = request_step J changes part_of s.board request in
       (told_line text (s.answered + 1) request r.0, record { answered = s.answered + 1; board = r.1 })

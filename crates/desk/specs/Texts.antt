@@ -1,22 +1,19 @@
 -- Requests and what they are answered, as they are printed.
-use Rattle.std.specs.Prelude.{ℕ, zero, suc, ◌/◌, ◌%◌, ◌^◌, Bool, true, false, cond, ◌==◌, List, [], ◌++◌, Ok, Err, Result, codes, decimal}
+use Rattle.std.specs.Prelude.{ℕ, zero, suc, ◌/◌, ◌%◌, ◌^◌, Bool, true, false, cond, ◌==◌, List, [], ◌++◌, Some, Option, Ok, Err, Result, codes, decimal}
+use Rattle.std.specs.Fmt.{◌++?◌}
 use Rattle.refusal.specs.declared.Refusal.{Refusal}
 use Rattle.refusal.specs.declared.limits.TheConstants.{STATIONS}
 use Rattle.refusal.specs.Text.{number_and_place}
 use Rattle.refusal.specs.Sentences.{sentence_text}
 use Rattle.calls.specs.Calls.{verb_in}
 use Rattle.calls.specs.Words.{head_text, answer_text}
-use Rattle.steptext.specs.declared.expectations.Expected.TheVariants.{Verb}
-use Rattle.steptext.specs.Texts.{expected_text}
+use Rattle.steptext.specs.declared.lines.BadLine.{BadLine}
+use Rattle.steptext.specs.Texts.{bad_line_text}
 use Rattle.desk.specs.declared.requests.Request.{Request}
 use Rattle.desk.specs.declared.requests.Request.TheVariants.{Call, Holders, Compare}
 use Rattle.desk.specs.declared.replies.Reply.{Reply}
 use Rattle.desk.specs.declared.replies.Reply.TheVariants.{Answered, Holders as Held, Order}
 use Rattle.desk.specs.declared.replies.Told.{Told}
-use Rattle.textlines.specs.declared.TheConstants.{MAX_LINE_LEN}
-use Rattle.desk.specs.declared.hearing.Wrong.{Wrong}
-use Rattle.desk.specs.declared.hearing.Wrong.TheVariants.{TooLong, NoText, Instead}
-use Rattle.desk.specs.declared.hearing.WrongLine.{WrongLine}
 
 abbrev pub line_end : List ℕ
 line_end = codes "\n"
@@ -63,15 +60,6 @@ module _ {V : Type 0} (text : V → List ℕ) where
   abbrev pub told_line : ℕ → Request → Result (Reply V) Refusal → List ℕ
   told_line number request result = told_text (record { number = number; request = request; result = result }) ++ line_end
 
--- what is told of a line that makes no request
-abbrev pub wrong_text : Wrong → List ℕ
-wrong_text TooLong = codes "expected at most " ++ (decimal MAX_LINE_LEN ++ codes " bytes")
-wrong_text NoText = codes "expected text in UTF-8"
-wrong_text (Instead Verb) = codes "expected register, signal, wait, drop, send, result, view, holders or compare"
-wrong_text (Instead expected) = codes "expected " ++ expected_text expected
-
-abbrev pub wrong_line_text : WrongLine → List ℕ
-wrong_line_text line = codes "line " ++ (decimal line.number ++ (codes ": " ++ wrong_text line.wrong))
-
-abbrev pub complaint_text : WrongLine → List ℕ
-complaint_text line = wrong_line_text line ++ line_end
+-- what is told of a wrong line
+abbrev pub complaint_text : BadLine → Option (List ℕ)
+complaint_text bad = bad_line_text bad ++? Some line_end

@@ -12,7 +12,7 @@ mod sittings;
 mod text;
 
 pub use answers::answer;
-pub use hearing::{Heard, Wrong, WrongLine, heard_of};
+pub use hearing::{Heard, heard_of};
 pub use lines::request_of;
 pub use measured::Measured;
 pub use replies::{Reply, Told};

@@ -17,7 +17,7 @@ pub enum Reply<V> {
 /// A request by its number, and what it was answered.
 #[derive(Clone, Copy, Debug, PartialEq, Eq)]
 pub struct Told<V> {
-    pub number: u64,
+    pub number: usize,
     pub request: Request,
     pub result: Result<Reply<V>, Refusal>,
 }

@@ -9,7 +9,7 @@ ghost use Rattle.desk.specs.Texts.{told_line, complaint_text};
 ghost use Rattle.desk.specs.Sittings.{written};
 
 use crate::answers::answer;
-use crate::hearing::{Heard, Wrong, WrongLine, heard_of};
+use crate::hearing::{Heard, heard_of};
 use crate::measured::Measured;
 use crate::replies::Told;
 use crate::requests::Request;
@@ -19,6 +19,7 @@ use shiftlog::write_bytes;
 use std::alloc::{AllocError, Global};
 use std::io;
 use std::io::{ErrorKind, Read, Write};
+use steptext::{BadLine, Mismatch};
 use textlines::{Line, read_line, skip_line};
 use thiserror::Error;
 
@@ -26,7 +27,7 @@ use thiserror::Error;
 #[derive(Debug, Drop, Error)]
 pub enum Broken {
     #[error("{0}")]
-    Line(WrongLine),
+    Line(BadLine),
     #[error(transparent)]
     Stream(#[from] io::Error),
     #[error(transparent)]
@@ -42,7 +43,7 @@ fn hear<R: Read>(heap: Global, reader: &mut R, line: &mut Vec<u8>) -> Result<Opt
         Line::Ended => Ok(None),
         Line::TooLong => {
             skip_line(reader)?;
-            Ok(Some(Heard::Wrong(Wrong::TooLong)))
+            Ok(Some(Heard::Wrong(Mismatch::too_long())))
         }
         Line::Whole => Ok(Some(heard_of(heap, line.as_slice())?)),
     }
@@ -52,7 +53,7 @@ fn hear<R: Read>(heap: Global, reader: &mut R, line: &mut Vec<u8>) -> Result<Opt
 fn tell<V: Measured, A: Accumulator<Value = V>, W: Write>(
     heap: Global,
     board: &mut Board<A>,
-    number: u64,
+    number: usize,
     request: Request,
     answers: &mut W,
 ) -> Result<(), Broken>
@@ -74,11 +75,11 @@ fn tell<V: Measured, A: Accumulator<Value = V>, W: Write>(
 /// Tells of a wrong line, or ends there.
 fn complain<E: Write>(
     heap: Global,
-    line: WrongLine,
+    line: BadLine,
     strict: bool,
     complaints: &mut E,
 ) -> Result<(), Broken>
-    ensures { OnOk result (Appends (E.contents complaints.old) (E.contents complaints.new) (complaint_text line)) }
+    ensures { OnOk result (IfSome (complaint_text line) (λ text. Appends (E.contents complaints.old) (E.contents complaints.new) text)) }
 {
     if strict {
         return Err(Broken::Line(line));
@@ -103,8 +104,8 @@ pub fn answer_lines<V: Measured, A: Accumulator<Value = V>, R: Read, W: Write, E
         (written V.Joining A.changes V.part_of V.text (record { answered = 0; board = board.old }) (lines text)))) }
 {
     let mut line = Vec::new(heap);
-    let mut answered = 0u64;
-    for i in 0..u64::MAX {
+    let mut answered = 0usize;
+    for i in 0..usize::MAX {
         let Some(heard) = hear(heap, reader, &mut line)? else {
             return Ok(());
         };
@@ -114,9 +115,9 @@ pub fn answer_lines<V: Measured, A: Accumulator<Value = V>, R: Read, W: Write, E
                 answered += 1;
                 tell(heap, board, answered, request, answers)?;
             }
-            Heard::Wrong(wrong) => {
+            Heard::Wrong(mismatch) => {
                 let number = i + 1;
-                complain(heap, WrongLine { number, wrong }, strict, complaints)?;
+                complain(heap, BadLine { number, mismatch }, strict, complaints)?;
             }
         }
     }

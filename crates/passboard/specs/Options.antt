@@ -1,7 +1,5 @@
 -- What the options ask for.
-use Rattle.std.specs.Prelude.{◌≡◌, ℕ, true, cond, List, Some, None, Option, Ok, Result, bytes_eq, codes, option_and_then}
-use Rattle.std.specs.Str.Parse.{ParsesUnsigned}
-use Rattle.std.specs.declared.num.ParseIntError.{ParseIntError}
+use Rattle.std.specs.Prelude.{◌≡◌, ℕ, true, cond, List, Some, None, Option, bytes_eq, codes, option_and_then}
 use Rattle.clap.specs.Words.{first_value, one_text}
 use Rattle.clap.specs.declared.parser.matches.Found.{Found}
 use Rattle.steptext.specs.Words.{word_mode}

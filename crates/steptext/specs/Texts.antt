@@ -6,7 +6,7 @@ use Rattle.refusal.specs.declared.Refusal.TheVariants.{LogSize}
 use Rattle.refusal.specs.Text.{number_and_place}
 use Rattle.shiftlog.specs.declared.form.TheConstants.{MAX_BLOCKS}
 use Rattle.steptext.specs.declared.expectations.Expected.{Expected}
-use Rattle.steptext.specs.declared.expectations.Expected.TheVariants.{Verb, Station, Mode, Length, Deviation, Marks, End, Text, ShortLine}
+use Rattle.steptext.specs.declared.expectations.Expected.TheVariants.{Verb, Request, Station, Mode, Length, Deviation, Marks, End, Text, ShortLine}
 use Rattle.steptext.specs.declared.found.Found.{Found}
 use Rattle.steptext.specs.declared.found.Found.TheVariants.{Word, LineEnd, OtherBytes, LongerLine}
 use Rattle.steptext.specs.declared.found.Mismatch.{Mismatch}
@@ -17,6 +17,7 @@ use Rattle.steptext.specs.declared.streams.NoLog.TheVariants.{WrongLine, TooMany
 
 abbrev pub expected_text : Expected → List ℕ
 expected_text Verb = codes "register, signal, wait, drop, send, result or view"
+expected_text Request = codes "register, signal, wait, drop, send, result, view, holders or compare"
 expected_text Station = codes "a station, 0 to 255"
 expected_text Mode = codes "SW, SO or WO"
 expected_text Length = codes "a length, 0 to 4294967295"

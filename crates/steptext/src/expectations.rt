@@ -5,10 +5,12 @@ ghost use Rattle.steptext.specs.Texts.{expected_text};
 use std::fmt;
 use textlines::MAX_LINE_LEN;
 
-/// What was expected where a line says no step.
+/// What was expected where a line is wrong.
 #[derive(Clone, Copy, Debug, PartialEq, Eq)]
 pub enum Expected {
     Verb,
+    /// A verb, or a word that asks for whom a station waits, or to compare two.
+    Request,
     Station,
     Mode,
     Length,
@@ -28,6 +30,9 @@ impl fmt::Display for Expected {
     fn fmt<W: fmt::Write>(&self, f: &mut fmt::Formatter<W>) -> fmt::Result {
         let text = match self {
             Expected::Verb => "register, signal, wait, drop, send, result or view",
+            Expected::Request => {
+                "register, signal, wait, drop, send, result, view, holders or compare"
+            }
             Expected::Station => "a station, 0 to 255",
             Expected::Mode => "SW, SO or WO",
             Expected::Length => "a length, 0 to 4294967295",

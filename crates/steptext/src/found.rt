@@ -1,6 +1,7 @@
 //! What a line has where something else was expected.
 ghost use Rattle.std.specs.Prelude.{◌≡◌, IfOk};
 ghost use Rattle.std.specs.Fmt.{debug_str};
+ghost use Rattle.steptext.specs.Lines.{not_text, too_long};
 ghost use Rattle.steptext.specs.Texts.{found_text, mismatch_text};
 
 use crate::expectations::Expected;
@@ -74,11 +75,33 @@ impl fmt::Display for Found {
     }
 }
 
-/// Why a line says no step.
+/// Why a line says nothing that is understood.
 #[derive(Debug, Drop)]
 pub struct Mismatch {
     pub expected: Expected,
     pub found: Found,
+}
+
+impl Mismatch {
+    /// Of a line with more bytes than the longest has.
+    pub fn too_long() -> Mismatch
+        ensures { result ≡ too_long }
+    {
+        Mismatch {
+            expected: Expected::ShortLine,
+            found: Found::LongerLine,
+        }
+    }
+
+    /// Of a line that is no text.
+    pub fn not_text() -> Mismatch
+        ensures { result ≡ not_text }
+    {
+        Mismatch {
+            expected: Expected::Text,
+            found: Found::OtherBytes,
+        }
+    }
 }
 
 impl fmt::Display for Mismatch {

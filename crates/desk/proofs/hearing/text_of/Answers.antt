@@ -1,4 +1,4 @@
-use Rattle.std.proofs.Common.{◌≡◌, cond, List, ℕ, Bor, Some, None, Option, Ok, Err, Result, sym, ap, ◌∙◌}
+use Rattle.std.proofs.Common.{◌≡◌, cond, List, ℕ, Bor, Some, None, Ok, Err, Result, sym, ap, ◌∙◌}
 use Rattle.std.specs.Prelude.{option_map, MatchResult}
 use Rattle.std.specs.Result.{result_ok}
 use Rattle.std.specs.Str.{IsUtf8, is_utf8}

@@ -3,7 +3,7 @@ use Rattle.std.specs.Io.KnownBytes.{Appends}
 use Rattle.desk.specs.declared.hearing.Heard.TheVariants.{Nothing, Asked, Wrong}
 use Rattle.desk.specs.Answers.{request_step}
 use Rattle.desk.specs.Texts.{told_line}
-use Rattle.desk.proofs.Written.{Appends-none, to_write, ends, by_no_line, one_more}
+use Rattle.desk.proofs.Written.{Appends-none, ends, by_no_line, one_more}
 use Rattle.desk.proofs.sittings.answer_lines.Goals as goal
 use Rattle.desk.proofs.sittings.answer_lines.Goals.{in-Nothing, in-Asked+in_ok-tell-in-Asked, in-Wrong+in_ok-complain-in-Wrong}
 
@@ -38,7 +38,7 @@ loop-i-preserved g c =
       }
       | in-Wrong+in_ok-complain-in-Wrong w ↦ record {
         counted = omega arith;
-        written = one_more J changes part_of text _ now _ _ _ _ _ _ _ _ (Wrong w.in-Wrong.wrong) c.loop-i.invariant.written (c.in-Some.is ∙ ap Some w.in-Wrong.is) c.in_ok-heard.ensures
+        written = one_more J changes part_of text _ now _ _ _ _ _ _ _ _ (Wrong w.in-Wrong.mismatch) c.loop-i.invariant.written (c.in-Some.is ∙ ap Some w.in-Wrong.is) c.in_ok-heard.ensures
             (subst (λ a. Appends now (g.W.Write.contents a) []) (sym w.answers-is) same)
             (λ i. record { answered = w.answered-is i; board = w.board-is i });
       }
