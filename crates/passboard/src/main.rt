@@ -11,18 +11,13 @@ mod arguments;
 
 use crate::arguments::{Keeping, Kind, Options, command, options_of};
 use accumulator::{Accumulator, Eager, KEPT, Lazy};
-use anyhow::{Context, anyhow};
+use anyhow::Context;
 use board::Board;
-use commandline::{asked, words};
+use commandline::{asked, in_words, words};
 use desk::{Measured, answer_lines};
 use joining::{CoilRecord, Extremes, Joining, Length, Marks, Toggles};
 use refusal::Refusal;
 use std::io::BufReader;
-
-/// A refusal with what it says.
-fn in_words(refusal: Refusal) -> anyhow::Error {
-    anyhow!("{refusal}: {}", refusal.sentence())
-}
 
 /// Whether a board and its accumulator can be made, of whatever kind.
 fn tried(first: u8, limit: usize) -> Result<(), Refusal>
