@@ -18,7 +18,7 @@ use Rattle.desk.specs.declared.replies.Told.{Told}
 abbrev pub line_end : List ℕ
 line_end = codes "\n"
 
--- its verb and its stations
+-- its verb and who asks, or who is asked about
 abbrev pub asked_text : Request → List ℕ
 asked_text (Call c) = head_text (verb_in c.action) c.caller
 asked_text (Holders waiter) = codes "holders " ++ decimal waiter

@@ -9,7 +9,7 @@ use crate::requests::Request;
 use refusal::limits::STATIONS;
 use std::fmt;
 
-/// A request with its verb and stations alone.
+/// A request by its verb and the stations that ask or are asked about.
 #[derive(Clone, Copy)]
 struct Asked(Request);
 

@@ -27,11 +27,11 @@ Lines:
   view STATION
 Blank lines and lines that begin with # are skipped. A log has at most 3968 steps.
 
-Status: 0 where the log was written, 1 where a line is wrong or there are too many steps, of which
-standard error tells, or where reading or writing failed. Then nothing is written.
+Status: 0 where the log was written; 1, with a message on standard error, where a line is wrong or
+there are too many steps, and then nothing is written, or where reading or writing failed.
 
 Example:
-  printf 'signal 0\nwait 0\n' | logwrite > coil.log";
+  printf 'signal 0\\nwait 0\\n' | logwrite > coil.log";
 
 /// Writes the log that the reader's text says, and nothing else; where the text says none, nothing
 /// at all.
