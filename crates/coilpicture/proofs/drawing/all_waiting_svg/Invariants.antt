@@ -1,7 +1,0 @@
-use Rattle.std.proofs.Common.{◌≡◌, take, string_bytes}
-use Rattle.coilpicture.specs.Text.{waiting_text}
-use Rattle.coilpicture.specs.Svg.{placed, line_shape}
-use Rattle.coilpicture.proofs.drawing.all_waiting_svg.Given as goal
-
-abbrev pub invariant-loop-place : goal.invariant-loop-place
-invariant-loop-place l = string_bytes l.text ≡ placed (λ place w. line_shape place (waiting_text w)) (take l.place-counter l.all)

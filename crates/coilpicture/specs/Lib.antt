@@ -1,9 +1,0 @@
-pub mod Numbers
-pub mod Watched
-pub mod Deeds
-pub mod Shown
-pub mod Cells
-pub mod Picture
-pub mod Text
-pub mod Svg
-pub mod Drawn
