@@ -19,13 +19,16 @@ use Rattle.phaser.specs.State.{State, seat, SoundState}
 use Rattle.phaser.specs.Rules.{put, view_after_signal, view_after_wait, newcomer_view, PhaserState, Applies}
 use Rattle.phaser.specs.Limits.{is_sw, reaches, first_after, HasRoom, WithinLimits, phaser_state, Shows, Accepted}
 use Rattle.phaser.specs.Steps.{view_of, all_signed, moving_rules, rules, answer_of, with_seat, state_by, state_of, step}
-use Rattle.phaser.specs.Agreement.{Agrees}
+use Rattle.phaser.specs.Agreement.{Agrees, CountedState}
 use Rattle.phaser.proofs.Seats.{sw_mode, get_or-put}
 use Rattle.phaser.proofs.Turns.{present, vacant, sign_in_turn, may_sign, wait_in_turn, may_wait, admitted, may_admit, all_up, up_all, moves_within}
 use Rattle.phaser.proofs.Outcomes.{member, one_end}
 use Rattle.phaser.proofs.Shown.{moved, value_joined}
 
-module _ {V : Type 0} (J : Ghosts V) (s : State V) (sound : SoundState s) (j : ℕ) where
+pub counted : {V : Type 0} (s : State V) → SoundState s → CountedState s
+counted s sound = record { table = sound.seats.table; counts = λ k v e. (sound.seats.views k v e).counts; window = sound.window }
+
+module _ {V : Type 0} (J : Ghosts V) (s : State V) (sound : CountedState s) (j : ℕ) where
   abbrev me : View
   me = view_of (seat s j)
 
@@ -40,13 +43,13 @@ module _ {V : Type 0} (J : Ghosts V) (s : State V) (sound : SoundState s) (j : �
 
   -- the limits of a call that writes one seat, and what it shows
   wrote : (x : Action V) (k : ℕ) (o : Option View) → j < STATIONS → HasRoom s j me x → first_after s.account.first me x ≡ s.account.first → WithinLimits s j x me (with_seat s k o)
-  wrote x k o h f e = record { station = h; room = f; table = length-set s.members k o ∙ sound.seats.table; limit = refl; first = sym e; window = sound.window }
+  wrote x k o h f e = record { station = h; room = f; table = length-set s.members k o ∙ sound.table; limit = refl; first = sym e; window = sound.window }
 
   shows_put : (k : ℕ) (o : Option View) → k < STATIONS → Shows J (with_seat s k o) (record { phaser = put (seat s) k o; totals = T })
-  shows_put k o h = record { seats = get_or-put s.members k o None (omega (arith, sound.seats.table)); totals = λ p l. refl }
+  shows_put k o h = record { seats = get_or-put s.members k o None (omega (arith, sound.table)); totals = λ p l. refl }
 
   stays : (x : Action V) → j < STATIONS → HasRoom s j me x → first_after s.account.first me x ≡ s.account.first → WithinLimits s j x me s
-  stays x h f e = record { station = h; room = f; table = sound.seats.table; limit = refl; first = sym e; window = sound.window }
+  stays x h f e = record { station = h; room = f; table = sound.table; limit = refl; first = sym e; window = sound.window }
 
   shows_same : Shows J s (phaser_state J s)
   shows_same = record { seats = λ k. refl; totals = λ p l. refl }
@@ -69,7 +72,7 @@ module _ {V : Type 0} (J : Ghosts V) (s : State V) (sound : SoundState s) (j : �
       record {
         view = me;
         next = record { phaser = put (seat s) j (Some (view_after_signal me)); totals = T };
-        applies = (record { member = here; signer = c.1.1.0; turn = sign_in_turn me.mode me.sp me.wp (sound.seats.views j me here).counts c.1.1.1.0; leaves = refl }, refl, refl);
+        applies = (record { member = here; signer = c.1.1.0; turn = sign_in_turn me.mode me.sp me.wp (sound.counts j me here) c.1.1.1.0; leaves = refl }, refl, refl);
         limits = wrote Signal j (Some (view_after_signal me)) within (leb-true (me.sp + 1) LAST_PASS c.1.1.1.1.0) refl;
         shows = shows_put j (Some (view_after_signal me)) within;
       }
@@ -82,8 +85,8 @@ module _ {V : Type 0} (J : Ghosts V) (s : State V) (sound : SoundState s) (j : �
       record {
         view = me;
         next = record { phaser = put (seat s) j o; totals = T };
-        applies = (record { await = all_up (me.wp + 1) s.members signed_all; member = here; waiter = c.1.1.0; turn = wait_in_turn me.mode me.sp me.wp (sound.seats.views j me here).counts c.1.1.1.0; leaves = refl }, refl, refl);
-        limits = record { station = within; room = leb-true (me.wp + 1) LAST_PASS c.1.1.1.1.0; table = length-set s.members j o ∙ sound.seats.table; limit = m.limit; first = m.first; window = m.window };
+        applies = (record { await = all_up (me.wp + 1) s.members signed_all; member = here; waiter = c.1.1.0; turn = wait_in_turn me.mode me.sp me.wp (sound.counts j me here) c.1.1.1.0; leaves = refl }, refl, refl);
+        limits = record { station = within; room = leb-true (me.wp + 1) LAST_PASS c.1.1.1.1.0; table = length-set s.members j o ∙ sound.table; limit = m.limit; first = m.first; window = m.window };
         shows = record { seats = (shows_put j o within).seats; totals = m.totals };
       }
   to_rule Drop c =
@@ -104,11 +107,11 @@ module _ {V : Type 0} (J : Ghosts V) (s : State V) (sound : SoundState s) (j : �
       record {
         view = me;
         next = record { phaser = seat s; totals = put T n (J.joined (T n) x) };
-        applies = (record { member = here; sender = sw; turn = sign_in_turn me.mode me.sp me.wp (sound.seats.views j me here).counts c.1.1.1.0 sw; leaves = refl }, refl, refl);
+        applies = (record { member = here; sender = sw; turn = sign_in_turn me.mode me.sp me.wp (sound.counts j me here) c.1.1.1.0 sw; leaves = refl }, refl, refl);
         limits = record {
           station = ltb-true j STATIONS c.0;
           room = (leb-true n LAST_PASS c.1.1.1.1.0, ltb-true j s.account.limit c.1.1.1.1.1.0, is-kept);
-          table = sound.seats.table;
+          table = sound.table;
           limit = refl;
           first = refl;
           window = length-set _ _ _ ∙ sound.window;
@@ -217,7 +220,7 @@ module _ {V : Type 0} (J : Ghosts V) (s : State V) (sound : SoundState s) (j : �
       ap (λ (w : Verdict). (answer_by w (answered x), state_by w (left x) s)) (accepted (rules s j me x) holds)
       ∙ (λ i. (Ok (sym same.0 i), sym same.1 i))
 
-pub rules_agree_lem : {V : Type 0} (J : Ghosts V) (s : State V) → SoundState s → (j : ℕ) (x : Action V) → Agrees J s j x
+pub rules_agree_lem : {V : Type 0} (J : Ghosts V) (s : State V) → CountedState s → (j : ℕ) (x : Action V) → Agrees J s j x
 rules_agree_lem J s sound j x = record {
   by_rule = accepts J s sound j x;
   by_step = accepted_step J s sound j x;

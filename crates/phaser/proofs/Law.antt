@@ -23,7 +23,7 @@ use Rattle.phaser.proofs.Complete.{totals_complete}
 use Rattle.phaser.proofs.OrderFree.{shares, order_free}
 use Rattle.phaser.proofs.Ends.{ended}
 use Rattle.phaser.proofs.Shares.{same_account}
-use Rattle.phaser.proofs.Agree.{accepts, rules_agree_lem}
+use Rattle.phaser.proofs.Agree.{counted, accepts, rules_agree_lem}
 use Rattle.phaser.proofs.Moves.{moves_on}
 use Rattle.phaser.proofs.Fine.{fine_verdict}
 use Rattle.phaser.proofs.Refusals.{fine}
@@ -49,7 +49,7 @@ module _ {V : Type 0} (J : Ghosts V) where
       let b : Answer V = answer_of (total_in J s.account) v c.action in
       let u : State V = state_of J s c.caller v c.action in
       one_step s c cs l g (played cs) b u (verdict (rules s c.caller v c.action))
-      (λ e. accepts J s (good_sound l s g) c.caller c.action b u (ap (λ (w : Verdict). (answer_by w b, state_by w u s)) e))
+      (λ e. accepts J s (counted s (good_sound l s g)) c.caller c.action b u (ap (λ (w : Verdict). (answer_by w b, state_by w u s)) e))
       (fine_verdict Expected (rules s c.caller v c.action) (fine l s g c.caller c.action))
 
   recorded : (j : ℕ) (mode : Mode) (limit : ℕ) → j < STATIONS → (cs : List (Call V)) → Recorded J j mode limit (accepted_calls (history J (new_state J j mode limit) cs)) (final_state J (new_state J j mode limit) cs)
@@ -74,7 +74,7 @@ module _ {V : Type 0} (J : Ghosts V) where
         sound = sound_after j mode limit within calls;
         by_rules = λ earlier later e cut.
             let before = map (λ d. d.0) earlier in
-            rules_agree_lem J (final_state J start before) (sound_after j mode limit within before) e.0.caller e.0.action;
+            rules_agree_lem J (final_state J start before) (counted (final_state J start before) (sound_after j mode limit within before)) e.0.caller e.0.action;
         in_order = reads_in_order J j mode limit h t rec;
         causal = reads_causal J j mode limit h t rec;
         complete = totals_complete J j mode limit h t rec;

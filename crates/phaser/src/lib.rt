@@ -9,6 +9,7 @@ ghost use Rattle.calls.specs.declared.views.View.{View};
 ghost use Rattle.calls.specs.declared.actions.Action.{Action};
 ghost use Rattle.accumulator.specs.Window.{eager_rules, lazy_rules, add_rules};
 ghost use Rattle.phaser.specs.Accounts.{AccountsOrderFree};
+ghost use Rattle.phaser.specs.Agreement.{RulesAgree};
 ghost use Rattle.phaser.specs.Law.{RecordsGoOn, RecordsAlike};
 ghost use Rattle.phaser.specs.Places.{PlacesDue};
 ghost use Rattle.phaser.specs.State.{State};
@@ -23,6 +24,13 @@ pub fn refusals_in_order<V: Joining>()
     ensures calls { (s : State V) (j : ℕ) (v : View) (x : Action V) → TriedUpward (rules s j v x) }
     ensures makings { (limit cells : ℕ) → TriedUpward (eager_rules limit) × TriedUpward (lazy_rules limit cells) }
     ensures adds { (limit first station pass : ℕ) → TriedUpward (add_rules limit first station pass) }
+{}
+
+/// A call is accepted just where its rule in the literature applies within the limits, with the
+/// same answer and board after, on any seats and totals of a board's number where each view has
+/// the counts of its mode; a refusal leaves the board as it is.
+pub fn rules_agree<V: Joining>()
+    ensures { RulesAgree V.Joining }
 {}
 
 /// What calls are answered by the rules goes on a board's record, whoever makes them, and the law

@@ -1,6 +1,6 @@
 use Rattle.std.proofs.Common.{subst}
 use Rattle.phaser.specs.State.{State, SoundState, SoundSeats}
-use Rattle.phaser.proofs.Agree.{rules_agree_lem}
+use Rattle.phaser.proofs.Agree.{counted, rules_agree_lem}
 use Rattle.board.specs.declared.Board.TheInside.{Inside}
 use Rattle.board.specs.Board.{WholeBoard}
 use Rattle.board.proofs.Board.keeps_to_the_rules.Goals as goal
@@ -13,4 +13,4 @@ returns g c =
     let s : State g.row.A-Value.Denot = record { members = b.members; account = g.A.Accumulator.meaning b.accumulator } in
     let inside : SoundState s = record { seats = seats; window = (g.A.Accumulator.sound b.accumulator).full } in
     let sound = subst (λ (h : WholeBoard g.row.A-Value.Denot). SoundState h.state) c.self.view_is inside in
-    record { sound = sound; agrees = λ j x. rules_agree_lem g.A.Value.Joining c.args.self.now.state sound j x }
+    record { sound = sound; agrees = λ j x. rules_agree_lem g.A.Value.Joining c.args.self.now.state (counted c.args.self.now.state sound) j x }
