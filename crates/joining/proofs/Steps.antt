@@ -1,22 +1,14 @@
--- The cells of a list in equal steps: after those that are skipped, by their places, and after a write.
-use Rattle.std.proofs.Common.{◌≡◌, ℕ, zero, suc, ◌+◌, ◌-◌, ◌*◌, ◌<◌, ◌≤◌, ◌≢◌, List, [], ◌∷◌, ◌++◌, length, get_or, drop, set, refl, ap, ◌∙◌, suc-mul, zero-mul, arith}
+-- The cells of a list in equal steps: one after the other, by their places, and after a write.
+use Rattle.std.proofs.Common.{◌≡◌, ℕ, zero, suc, ◌+◌, ◌-◌, ◌*◌, ◌<◌, ◌≤◌, max, ◌≢◌, List, [], ◌∷◌, length, get_or, set, refl, ap, ◌∙◌, suc-mul, suc-add, zero-add, zero-mul, arith}
 use Rattle.joining.specs.Every.{cells_after, cells_in_steps}
 
 module _ {V : Type 0} where
-  -- what is skipped may be dropped before
-  pub taken_dropped : (xs : List V) (skip gap : ℕ) → cells_after 0 gap (drop skip xs) ≡ cells_after skip gap xs
-  taken_dropped xs zero gap = refl
-  taken_dropped [] (suc skip) gap = refl
-  taken_dropped (x ∷ xs) (suc skip) gap = taken_dropped xs skip gap
+  taken_more : (xs : List V) (i gap : ℕ) (d : V) → i < length xs → cells_after i gap xs ≡ get_or xs i d ∷ cells_after (i + suc gap) gap xs
+  taken_more [] i gap d h = absurd (omega arith)
+  taken_more (x ∷ xs) zero gap d h = rw zero-add refl
+  taken_more (x ∷ xs) (suc i) gap d h = rw suc-add (taken_more xs i gap d (omega arith))
 
-  -- after so many others comes the one that is taken
-  pub taken_after : (front ys : List V) (skip gap : ℕ) (y : V) → length front ≡ skip → cells_after skip gap (front ++ y ∷ ys) ≡ y ∷ cells_after gap gap ys
-  taken_after [] ys zero gap y e = refl
-  taken_after [] ys (suc skip) gap y e = absurd (omega arith)
-  taken_after (x ∷ front) ys zero gap y e = absurd (omega arith)
-  taken_after (x ∷ front) ys (suc skip) gap y e = taken_after front ys skip gap y (omega arith)
-
-  pub taken_past : (xs : List V) (i gap : ℕ) → length xs ≤ i → cells_after i gap xs ≡ []
+  taken_past : (xs : List V) (i gap : ℕ) → length xs ≤ i → cells_after i gap xs ≡ []
   taken_past [] i gap h = refl
   taken_past (x ∷ xs) zero gap h = absurd (omega arith)
   taken_past (x ∷ xs) (suc i) gap h = taken_past xs i gap (omega arith)
@@ -41,6 +33,15 @@ module _ {V : Type 0} where
   taken_other (x ∷ xs) zero gap (suc i) v none = ap (λ ys. x ∷ ys) (taken_other xs gap gap i v (λ k e. none (suc k) (omega (arith, suc-mul k (suc gap)))))
   taken_other (x ∷ xs) (suc skip) gap zero v none = refl
   taken_other (x ∷ xs) (suc skip) gap (suc i) v none = taken_other xs skip gap i v (λ k e. none k (omega arith))
+
+  -- the cell at i, and then those from i on by one stride
+  pub every_more : (xs : List V) (i step stride : ℕ) (d : V) → stride ≡ max step 1 → i < length xs → cells_in_steps i step xs ≡ get_or xs i d ∷ cells_in_steps (i + stride) step xs
+  every_more xs i step stride d e h =
+      let on : i + suc (step - 1) ≡ i + stride = omega arith in
+      taken_more xs i (step - 1) d h ∙ ap (λ k. get_or xs i d ∷ cells_after k (step - 1) xs) on
+
+  pub every_past : (xs : List V) (i step : ℕ) → length xs ≤ i → cells_in_steps i step xs ≡ []
+  every_past xs i step h = taken_past xs i (step - 1) h
 
   module _ (xs : List V) (start step : ℕ) (some : 0 < step) where
     stride : (k i : ℕ) → i ≡ start + k * step → i ≡ start + k * suc (step - 1)

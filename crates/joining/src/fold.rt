@@ -15,9 +15,11 @@ pub fn joining_laws<V: Joining>()
 pub fn join_every<V: Joining + Copy>(cells: &[V], start: usize, step: usize) -> V
     ensures { result ≡ joining_of V.Joining (cells_in_steps start step cells.now) }
 {
-    cells
-        .iter()
-        .skip(start)
-        .step_by(step.max(1))
-        .fold(V::neutral(), |total, cell| total.join(*cell))
+    // By index, since the library's `skip` and `step_by` over a slice go over every cell that they
+    // leave out.
+    let mut total = V::neutral();
+    for i in (start..cells.len()).step_by(step.max(1)) {
+        total = total.join(cells[i]);
+    }
+    total
 }
