@@ -30,7 +30,7 @@ fn word_for(alike: bool) -> &'static str
 /// The lines of the records, played eagerly, and a last line with their count and whether the
 /// lazy answers are alike.
 fn played(heap: Global, log: &Log<'_>) -> Result<String, AllocError>
-    ensures { IfOk result (λ text. string_bytes text ≡ played_text (log_outcomes log.now)) }
+    ensures { IfOk result (λ text. string_bytes text ≡ played_text (log_outcomes log.now.bytes.now)) }
 {
     let PlayedLog {
         outcomes,
