@@ -13,14 +13,39 @@ use anyhow::{anyhow, bail};
 use clap::{ArgMatches, Command};
 use refusal::Refusal;
 use std::env;
+use std::env::FillError;
 use std::rt::Env;
 
 /// The version of every program.
 pub const VERSION: &str = "0.1.0";
 
-/// The words of the command line, of which the first is the program's name.
+/// An environment that does not tell what the program was started as, which may be any bytes.
+#[derive(Drop)]
+struct Unnamed<'a, R> {
+    rt: &'a R,
+}
+
+impl<R: Env> Env for Unnamed<'_, R> {
+    fn arg(&self, i: usize, buf: &mut [u8]) -> Result<usize, FillError> {
+        if i == 0 {
+            return Ok(0);
+        }
+        self.rt.arg(i, buf)
+    }
+
+    fn var(&self, name: &str, buf: &mut [u8]) -> Result<usize, FillError> {
+        self.rt.var(name, buf)
+    }
+
+    fn var_at(&self, i: usize, buf: &mut [u8]) -> Result<usize, FillError> {
+        self.rt.var_at(i, buf)
+    }
+}
+
+/// The words of the command line, of which the first stands for the program's name and is empty.
 pub fn words(rt: &(impl Env + AllocGlobal)) -> anyhow::Result<Vec<String>> {
-    Ok(env::args(rt)?.collect(rt.alloc())?)
+    let unnamed = (Unnamed { rt }, rt.alloc());
+    Ok(env::args(&unnamed)?.collect(rt.alloc())?)
 }
 
 /// What the words ask of the command, to which the version is added. None where they ask for its
