@@ -19,12 +19,13 @@ mod members;
 mod station;
 mod turns;
 
-use crate::members::{Member, Members};
+use crate::members::Member;
 use crate::station::Station;
 use crate::turns::in_turn;
 use accumulator::{Accumulator, LEAD};
 use calls::{Mode, Verb, View, brings};
 pub use histories::{play, play_both};
+pub use members::{Members, SEATS};
 use refusal::Refusal;
 use std::marker::Model;
 
