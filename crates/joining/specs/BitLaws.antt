@@ -20,8 +20,9 @@ or_assoc =
     let high : bit_or (bit_or n b / 2) (c / 2) ≡ bit_or (n / 2) (bit_or b c / 2) = simp or_high (ih (b / 2) (c / 2)) in
     omega (arith, high, or_step (bit_or n b) c, or_step n (bit_or b c), or_low n b, or_low b c))
 
+-- commuting by arithmetic from the lemma, so that a law that says less of it is refused where it is needed, and not here
 pub or_laws : CommutativeMonoid 0 bit_or
-or_laws = record { associative = or_assoc; commutative = or_comm; neutral_left = λ x. refl }
+or_laws = record { associative = or_assoc; commutative = λ x y. omega (arith, or_comm x y); neutral_left = λ x. refl }
 
 pub xor_laws : CommutativeMonoid 0 bit_xor
-xor_laws = record { associative = xor_assoc; commutative = xor_comm; neutral_left = λ x. refl }
+xor_laws = record { associative = xor_assoc; commutative = λ x y. omega (arith, xor_comm x y); neutral_left = λ x. refl }
